@@ -1,0 +1,14 @@
+pub mod Group
+pub mod GroupLaws
+pub mod Ring
+pub mod RingLaws
+pub mod IntegerMap
+pub mod Solver
+pub mod Sound
+pub mod Integers
+pub mod Sign
+pub mod Gcd
+pub mod GcdLaws
+pub mod Fraction
+pub mod LowestTerms
+pub mod Steps

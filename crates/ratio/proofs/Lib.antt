@@ -1,0 +1,5 @@
+pub mod ProductLaws
+pub mod SumLaws
+pub mod SignLaws
+pub mod Twos
+pub mod Reading
