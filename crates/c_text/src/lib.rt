@@ -1,0 +1,2 @@
+//! Kernels as C text.
+#![tactic(auto)]
