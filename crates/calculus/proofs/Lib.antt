@@ -9,3 +9,6 @@ pub mod Factorials
 pub mod ReadingLaws
 pub mod Nodality
 pub mod PolynomialLaws
+pub mod ByDimension
+pub mod ChangeOfVariables
+pub mod Barycentric

@@ -15,6 +15,15 @@ dimension [] = 0
 dimension (v ∷ []) = 0
 dimension (v ∷ w ∷ ws) = suc (dimension (w ∷ ws))
 
+-- an interval, a triangle or a tetrahedron
+abbrev pub IsCell : Simplex → Type 0
+IsCell [] = ⊥
+IsCell (a ∷ []) = ⊥
+IsCell (a ∷ b ∷ []) = Unit {0}
+IsCell (a ∷ b ∷ c ∷ []) = Unit {0}
+IsCell (a ∷ b ∷ c ∷ e ∷ []) = Unit {0}
+IsCell (a ∷ b ∷ c ∷ e ∷ f ∷ vs) = ⊥
+
 -- the point of written-out coordinates; what is not written is 0
 abbrev pub coordinate_in : List Fraction → ℕ → Fraction
 coordinate_in [] i = zero_fraction
@@ -55,23 +64,23 @@ volume v = volume_in fractions v
 abbrev pub constant_point : Point Fraction → Point Polynomial
 constant_point v = record { x = constant v.x; y = constant v.y; z = constant v.z }
 
+abbrev pub constant_points : Simplex → List (Point Polynomial)
+constant_points [] = []
+constant_points (v ∷ vs) = constant_point v ∷ constant_points vs
+
 -- the point whose coordinates are the variables of space
 abbrev pub moving_point : Point Polynomial
 moving_point = record { x = coordinate 0; y = coordinate 1; z = coordinate 2 }
 
--- the vertices as constants, with the moving point at place j
-abbrev pub moved_vertex : ℕ → Simplex → List (Point Polynomial)
-moved_vertex j [] = []
-moved_vertex zero (v ∷ vs) = moving_point ∷ fixed vs
-  where
-    fixed : Simplex → List (Point Polynomial)
-    fixed [] = []
-    fixed (w ∷ ws) = constant_point w ∷ fixed ws
-moved_vertex (suc j) (v ∷ vs) = constant_point v ∷ moved_vertex j vs
+-- the vertices as constants, with the point x in place of vertex j
+abbrev pub with_vertex : Point Polynomial → ℕ → Simplex → List (Point Polynomial)
+with_vertex x j [] = []
+with_vertex x zero (v ∷ vs) = x ∷ constant_points vs
+with_vertex x (suc j) (v ∷ vs) = constant_point v ∷ with_vertex x j vs
 
 -- coordinate j at x: the volume factor with vertex j replaced by x, over that of the simplex, which is not 0
 unfoldable pub barycentric : Simplex → ℕ → Polynomial
-barycentric v j = times (constant (inverse (volume v))) (volume_in polynomials (moved_vertex j v))
+barycentric v j = times (constant (inverse (volume v))) (volume_in polynomials (with_vertex moving_point j v))
 
 -- ---- the reference cells: corner 0 and the unit points, in order
 abbrev pub origin : Point Fraction
@@ -104,9 +113,8 @@ image [] i = coordinate i
 image (u ∷ vs) i = plus (constant (along_axis i u)) (edges i u 0 vs)
 
 abbrev pub is_less : ℕ → ℕ → Bool
-is_less zero zero = false
+is_less m zero = false
 is_less zero (suc n) = true
-is_less (suc m) zero = false
 is_less (suc m) (suc n) = is_less m n
 
 -- the coordinates below the dimension by the map; each other variable stands for itself
