@@ -61,7 +61,7 @@ volume_times v h =
     ap (λ x. times x (constant (inverse (volume v)))) (sym (volume_constant v)) ∙ sym (constant-mul (volume v) (inverse (volume v))) ∙ ap constant (mul_inverse (volume v) h) ∙ constant-one
 
 -- ---- replacing the variables moves the point x
-abbrev point : Polynomial → Polynomial → Polynomial → Point Polynomial
+abbrev pub point : Polynomial → Polynomial → Polynomial → Point Polynomial
 point p q r = record { x = p; y = q; z = r }
 
 same_point : {p q r p' q' r' : Polynomial} → p ≡ p' → q ≡ q' → r ≡ r' → point p q r ≡ point p' q' r'
@@ -89,28 +89,28 @@ module _ (s : ℕ → Polynomial) where
       ∙ ap (volume_in polynomials) (moved_vertex j v))
 
 -- ---- the coordinates of the affine map
-abbrev κ : Fraction → Polynomial
+abbrev pub κ : Fraction → Polynomial
 κ a = constant a
 
-abbrev X : Polynomial
+abbrev pub X : Polynomial
 X = coordinate 0
 
-abbrev Y : Polynomial
+abbrev pub Y : Polynomial
 Y = coordinate 1
 
-abbrev Z : Polynomial
+abbrev pub Z : Polynomial
 Z = coordinate 2
 
 spread : (k : ℕ) (a b : Fraction) → times (coordinate k) (constant (add b (minus_fraction a))) ≡ times (coordinate k) (minus (κ b) (κ a))
 spread k a b = ap (times (coordinate k)) (constant-add b (minus_fraction a) ∙ ap (plus (κ b)) (constant-negative a))
 
-abbrev on_line : Fraction → Fraction → Polynomial
+abbrev pub on_line : Fraction → Fraction → Polynomial
 on_line a b = plus (κ a) (plus (times X (minus (κ b) (κ a))) nil)
 
-abbrev on_plane : Fraction → Fraction → Fraction → Polynomial
+abbrev pub on_plane : Fraction → Fraction → Fraction → Polynomial
 on_plane a b c = plus (κ a) (plus (times X (minus (κ b) (κ a))) (plus (times Y (minus (κ c) (κ a))) nil))
 
-abbrev in_space : Fraction → Fraction → Fraction → Fraction → Polynomial
+abbrev pub in_space : Fraction → Fraction → Fraction → Fraction → Polynomial
 in_space a b c e = plus (κ a) (plus (times X (minus (κ b) (κ a))) (plus (times Y (minus (κ c) (κ a))) (plus (times Z (minus (κ e) (κ a))) nil)))
 
 line_image : (a b : Fraction) → plus (κ a) (plus (times X (constant (add b (minus_fraction a)))) nil) ≡ on_line a b
@@ -123,15 +123,15 @@ space_image : (a b c e : Fraction)
     → plus (κ a) (plus (times X (constant (add b (minus_fraction a)))) (plus (times Y (constant (add c (minus_fraction a)))) (plus (times Z (constant (add e (minus_fraction a)))) nil))) ≡ in_space a b c e
 space_image a b c e = ap₂ (λ x w. plus (κ a) (plus x w)) (spread 0 a b) (ap₂ (λ y z. plus y (plus z nil)) (spread 1 a c) (spread 2 a e))
 
-affine_line : (a b : Point Fraction) → affine (a ∷ b ∷ []) 0 ≡ on_line a.x b.x
+pub affine_line : (a b : Point Fraction) → affine (a ∷ b ∷ []) 0 ≡ on_line a.x b.x
 unfolding affine
 affine_line a b = line_image a.x b.x
 
-affine_plane : (a b c : Point Fraction) → point (affine (a ∷ b ∷ c ∷ []) 0) (affine (a ∷ b ∷ c ∷ []) 1) (affine (a ∷ b ∷ c ∷ []) 2) ≡ point (on_plane a.x b.x c.x) (on_plane a.y b.y c.y) Z
+pub affine_plane : (a b c : Point Fraction) → point (affine (a ∷ b ∷ c ∷ []) 0) (affine (a ∷ b ∷ c ∷ []) 1) (affine (a ∷ b ∷ c ∷ []) 2) ≡ point (on_plane a.x b.x c.x) (on_plane a.y b.y c.y) Z
 unfolding affine
 affine_plane a b c = same_point (plane_image a.x b.x c.x) (plane_image a.y b.y c.y) refl
 
-affine_space : (a b c e : Point Fraction)
+pub affine_space : (a b c e : Point Fraction)
     → point (affine (a ∷ b ∷ c ∷ e ∷ []) 0) (affine (a ∷ b ∷ c ∷ e ∷ []) 1) (affine (a ∷ b ∷ c ∷ e ∷ []) 2)
     ≡ point (in_space a.x b.x c.x e.x) (in_space a.y b.y c.y e.y) (in_space a.z b.z c.z e.z)
 unfolding affine

@@ -8,14 +8,11 @@ use Rattle.algebra.specs.Sound as Solve
 use native.Mathlib.Nat as M
 use Rattle.calculus.specs.OverRing.{Polynomial, ring, constant, coordinate, derivative, replaced, raised, instead}
 use Rattle.calculus.specs.Field.{Field}
+use Rattle.calculus.specs.LocalFunction.{factorial}
 use Rattle.calculus.proofs.OverRingLaws as C
 use Rattle.calculus.proofs.IntervalLaw as I
 use Rattle.calculus.proofs.TriangleLaw as T
 use Rattle.calculus.proofs.TetrahedronLaw as V
-
-abbrev pub factorial : ℕ → ℕ
-factorial zero = 1
-factorial (suc n) = suc n * factorial n
 
 module _ {R : Type 0} (K : Ring R) (Q : Field K) where
   abbrev A : Ring (Polynomial K)

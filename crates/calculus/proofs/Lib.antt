@@ -12,3 +12,4 @@ pub mod PolynomialLaws
 pub mod ByDimension
 pub mod ChangeOfVariables
 pub mod Barycentric
+pub mod LocalFunctions

@@ -5,7 +5,7 @@ use Rattle.algebra.specs.RingLaws as L
 use Rattle.algebra.specs.IntegerMap as N
 use Rattle.algebra.specs.Solver.{at, num, ◌⊕◌, ◌⊗◌, ◌⊖◌, unity}
 use Rattle.algebra.specs.Sound as Solve
-use Rattle.calculus.proofs.Factorials.{factorial}
+use Rattle.calculus.specs.LocalFunction.{factorial}
 use native.Mathlib.Nat.{eq-or-lt_of_le, le_of_suc-le-suc}
 
 abbrev pub weight : List ℕ → ℕ

@@ -1,6 +1,6 @@
 -- Polynomials with fractions as coefficients, in the variables 0, 1, 2 of space and the parameters 3, 4, ..
 -- Two lists of terms are one polynomial where the summed coefficients of all exponents are equal, so `≡` is the equality of polynomials.
-use Rattle.std.specs.Prelude.{◌≡◌, ℕ, List, [], ◌∷◌}
+use Rattle.std.specs.Prelude.{◌≡◌, ℕ, zero, suc, List, [], ◌∷◌}
 use Rattle.algebra.specs.Ring.{Ring, natural}
 use Rattle.algebra.specs.Fraction.{Fraction, fractions, zero_fraction}
 use Rattle.calculus.specs.OverRing as O
@@ -67,6 +67,11 @@ value s p = O.value fractions fractions (λ a. a) same_map s p
 -- the value of p where all variables are 0; where p has no variable, p is the constant of it
 abbrev pub constant_term : Polynomial → Fraction
 constant_term p = value (λ i. zero_fraction) p
+
+-- p times itself, n times
+abbrev pub power : Polynomial → ℕ → Polynomial
+power p zero = one
+power p (suc n) = times p (power p n)
 
 -- n copies of 1
 abbrev pub whole : ℕ → Polynomial
