@@ -1,0 +1,15 @@
+pub mod WrittenOut
+pub mod OverRingLaws
+pub mod Antiderivative
+pub mod IntervalLaw
+pub mod TriangleLaw
+pub mod TetrahedronLaw
+pub mod Coefficients
+pub mod Factorials
+pub mod ReadingLaws
+pub mod Nodality
+pub mod PolynomialLaws
+pub mod ByDimension
+pub mod ChangeOfVariables
+pub mod Barycentric
+pub mod LocalFunctions

@@ -1,0 +1,11 @@
+pub mod Field
+pub mod Free
+pub mod Product
+pub mod Powers
+pub mod OverRing
+pub mod Rational
+pub mod Polynomial
+pub mod Point
+pub mod Simplex
+pub mod Integral
+pub mod LocalFunction

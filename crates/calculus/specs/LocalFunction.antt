@@ -1,0 +1,33 @@
+-- The local functions of a Lagrange element, by Silvester's formula
+use Rattle.std.specs.Prelude.{ℕ, zero, suc, ◌+◌, ◌*◌, List, [], ◌∷◌}
+use Rattle.algebra.specs.Ring.{natural}
+use Rattle.algebra.specs.Fraction.{fractions, inverse}
+use Rattle.calculus.specs.Polynomial.{Polynomial, one, times, minus, constant, whole}
+use Rattle.calculus.specs.Simplex.{Simplex, barycentric}
+
+abbrev pub factorial : ℕ → ℕ
+factorial zero = 1
+factorial (suc n) = suc n * factorial n
+
+-- the degree of a node: its weights, one for each vertex of the cell, add up to it
+abbrev pub degree_of : List ℕ → ℕ
+degree_of [] = 0
+degree_of (a ∷ weights) = a + degree_of weights
+
+-- x (x - 1) .. (x - a + 1)
+abbrev pub falling : Polynomial → ℕ → Polynomial
+falling x zero = one
+falling x (suc a) = times (falling x a) (minus x (whole a))
+
+-- the factor of a vertex with weight a and barycentric coordinate b: (1/a!) times the product over m < a of (q b - m)
+abbrev pub vertex_factor : ℕ → Polynomial → ℕ → Polynomial
+vertex_factor q b a = times (constant (inverse (natural fractions (factorial a)))) (falling (times (whole q) b) a)
+
+-- the product over the vertices from number j on
+abbrev pub vertex_factors : ℕ → Simplex → ℕ → List ℕ → Polynomial
+vertex_factors q v j [] = one
+vertex_factors q v j (a ∷ weights) = times (vertex_factor q (barycentric v j) a) (vertex_factors q v (suc j) weights)
+
+-- the local function of a node on a cell; for degree 0 it is 1
+unfoldable pub local_function : Simplex → List ℕ → Polynomial
+local_function v weights = vertex_factors (degree_of weights) v 0 weights
