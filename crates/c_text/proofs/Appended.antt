@@ -1,0 +1,16 @@
+-- Appending step by step
+use Rattle.std.proofs.Common.{◌≡◌, refl, sym, ◌∙◌, ap, ℕ, List, ◌++◌, append_assoc, Result, Ok, Err, OnErr, OnOk}
+use Rattle.c_text.specs.Appends.{Extends}
+
+pub extends_behind : (old mid new t : List ℕ) → mid ≡ old ++ t → Extends mid new → Extends old new
+extends_behind old mid new t e x = (t ++ x.0, x.1 ∙ ap (λ l. l ++ x.0) e ∙ append_assoc old t x.0)
+
+-- A step behind others failed.
+pub kept_behind : {T E : Type 0} (r : Result T E) (old mid new t : List ℕ) → mid ≡ old ++ t → OnErr r (Extends mid new) → OnErr r (Extends old new)
+kept_behind (Ok x) old mid new t e h = tt
+kept_behind (Err x) old mid new t e h = extends_behind old mid new t e h
+
+-- a step behind others
+pub ok_behind : {T E : Type 0} (r : Result T E) (old mid new t u v : List ℕ) → mid ≡ old ++ t → t ++ u ≡ v → OnOk r (new ≡ mid ++ u) → OnOk r (new ≡ old ++ v)
+ok_behind (Ok x) old mid new t u v e f h = h ∙ ap (λ l. l ++ u) e ∙ append_assoc old t u ∙ ap (λ l. old ++ l) f
+ok_behind (Err x) old mid new t u v e f h = tt
