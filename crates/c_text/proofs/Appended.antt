@@ -14,3 +14,7 @@ kept_behind (Err x) old mid new t e h = extends_behind old mid new t e h
 pub ok_behind : {T E : Type 0} (r : Result T E) (old mid new t u v : List ℕ) → mid ≡ old ++ t → t ++ u ≡ v → OnOk r (new ≡ mid ++ u) → OnOk r (new ≡ old ++ v)
 ok_behind (Ok x) old mid new t u v e f h = h ∙ ap (λ l. l ++ u) e ∙ append_assoc old t u ∙ ap (λ l. old ++ l) f
 ok_behind (Err x) old mid new t u v e f h = tt
+
+pub on_err : {T E P : Type 0} (r : Result T E) → P → OnErr r P
+on_err (Ok x) p = tt
+on_err (Err e) p = p

@@ -1,7 +1,7 @@
 -- The texts of slots, places and fractions
 use Rattle.std.proofs.Common.{◌≡◌, refl, sym, ◌∙◌, ap, ℕ, List, [], ◌∷◌, ◌++◌, append_assoc, ◌/◌, ◌%◌, ◌^◌, slice_index, codes, decimal, unsigned_abs}
 use Rattle.algebra.specs.LowestTerms.{top, bottom}
-use Rattle.ratio.specs.declared.Ratio.{Ratio}
+use Rattle.ratio.specs.declared.reduced.Ratio.{Ratio}
 use Rattle.ratio.specs.Value.{fraction_of}
 use Rattle.c_unit.specs.declared.unit.Slot.{Slot}
 use Rattle.c_unit.specs.declared.unit.Place.{Place}

@@ -1,9 +1,9 @@
 -- The canonical text of a unit, as pieces
-use Rattle.std.specs.Prelude.{◌≡◌, refl, ℕ, zero, suc, ◌+◌, ◌*◌, ◌/◌, ◌%◌, ◌^◌, nat_lt, ◌==◌, if◌then◌else◌, List, [], ◌∷◌, ◌++◌, length, codes, decimal, replicate, slice_index, ℤ, unsigned_abs}
+use Rattle.std.specs.Prelude.{◌≡◌, refl, ℕ, zero, suc, ◌+◌, ◌*◌, ◌/◌, ◌%◌, ◌^◌, ◌==◌, if◌then◌else◌, List, [], ◌∷◌, ◌++◌, length, codes, decimal, replicate, slice_index, ℤ, unsigned_abs}
 use Rattle.std.proofs.Common.{ap, ◌∙◌}
 use Rattle.algebra.specs.LowestTerms.{top, bottom}
 use Rattle.algebra.specs.Sign.{is_negative}
-use Rattle.ratio.specs.declared.Ratio.{Ratio}
+use Rattle.ratio.specs.declared.reduced.Ratio.{Ratio}
 use Rattle.ratio.specs.Value.{fraction_of}
 use Rattle.c_unit.specs.declared.unit.Array.{Array}
 use Rattle.c_unit.specs.declared.unit.Array.TheVariants.{X, W, T, A}
@@ -14,6 +14,7 @@ use Rattle.c_unit.specs.declared.unit.CUnit.{CUnit}
 use Rattle.c_unit.specs.declared.unit.CStmt.{CStmt, Set, Copy, Abs, Inv, Add, Sub, Mul, Load, For', Row_of-CStmt, end_of-CStmt, more_of-CStmt, items-the_row-CStmt, items_hidden-the_row-CStmt-0}
 use Rattle.c_unit.specs.declared.unit.CStmt.TheViews as View
 use Rattle.c_unit.specs.declared.unit.CStmt.TheBlock.{hidden-the_row-CStmt-0}
+use Rattle.c_unit.specs.Meaning.{deeper}
 use Rattle.c_text.specs.Pieces.{Piece, Gap, Solid, Sign, blank, feed, text_of}
 
 -- ---- numbers, slots, places and fractions
@@ -66,10 +67,6 @@ value_pieces v = parts_pieces (top (fraction_of v)) (bottom (fraction_of v))
 -- the blanks at the front of a line, inside this many loops
 unfoldable pub indent : ℕ → Piece
 indent depth = Gap (replicate (2 * depth + 2) 32)
-
--- loops are nested at most four deep: a deeper one has no counter of its own
-abbrev pub deeper : ℕ → ℕ
-deeper depth = if nat_lt depth 4 then depth + 1 else depth
 
 -- a line that is a call of one argument behind the target
 abbrev pub call_pieces : ℕ → List ℕ → Place → List Piece → List Piece

@@ -2,6 +2,8 @@
 use Rattle.std.specs.Prelude.{ℕ, List, [], ◌∷◌, ◌++◌, codes, decimal, ℤ, if◌then◌else◌}
 use Rattle.algebra.specs.Sign.{is_negative}
 use Rattle.c_unit.specs.declared.unit.Array.{Array}
+use Rattle.c_unit.specs.declared.unit.Place.{Place}
+use Rattle.c_unit.specs.declared.unit.Slot.{Slot}
 use Rattle.c_text.specs.declared.print.Part.{Part}
 use Rattle.c_text.specs.declared.print.Part.TheVariants as Part
 use Rattle.c_text.specs.Pieces.{text_of, bytes_of}
@@ -27,3 +29,22 @@ half_bytes n = codes ", " ++ (decimal n ++ codes "u")
 
 abbrev pub sign_bytes : ℤ → List ℕ
 sign_bytes n = if is_negative n then codes "1" else codes "0"
+
+-- the lines of statements
+
+abbrev pub call_bytes : ℕ → List ℕ → Place → List ℕ → List ℕ
+call_bytes depth name to argument = bytes_of (indent depth) ++ (name ++ (codes "(" ++ (text_of (place_pieces to) ++ (codes ", " ++ (argument ++ codes ");\n")))))
+
+abbrev pub test_bytes : ℕ → List ℕ → Place → Place → Place → List ℕ
+test_bytes depth name to left right =
+    bytes_of (indent depth) ++ (codes "if (" ++ (name ++ (codes "(" ++ (text_of (place_pieces to) ++ (codes ", " ++ (text_of (place_pieces left) ++ (codes ", " ++ (text_of (place_pieces right) ++ codes ")) return 1;\n"))))))))
+
+abbrev pub header_bytes : ℕ → ℕ → List ℕ
+header_bytes depth turns =
+    bytes_of (indent depth) ++ (codes "for (int i" ++ (decimal depth ++ (codes " = 0; i" ++ (decimal depth ++ (codes " < " ++ (decimal turns ++ (codes "; i" ++ (decimal depth ++ codes "++) {\n"))))))))
+
+abbrev pub inverse_bytes : ℕ → Place → Place → List ℕ
+inverse_bytes depth to arg = bytes_of (indent depth) ++ (codes "if (fr_inv(" ++ (text_of (place_pieces to) ++ (codes ", " ++ (text_of (place_pieces arg) ++ codes ")) return 2;\n"))))
+
+abbrev pub load_bytes : ℕ → Place → ℕ → Slot → List ℕ
+load_bytes depth to table at = bytes_of (indent depth) ++ (codes "fr_load(" ++ (text_of (place_pieces to) ++ (codes ", &K" ++ (decimal table ++ (codes "[" ++ (text_of (slot_pieces at) ++ codes "]);\n"))))))

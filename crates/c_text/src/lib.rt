@@ -7,4 +7,4 @@
 mod print;
 
 pub use c_unit::{Array, CFun, CStmt, CUnit, Op, Place, Slot};
-
+pub use print::print_unit;
