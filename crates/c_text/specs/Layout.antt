@@ -1,5 +1,5 @@
 -- The canonical text of a unit, as pieces
-use Rattle.std.specs.Prelude.{◌≡◌, refl, ℕ, zero, suc, ◌+◌, ◌*◌, ◌/◌, ◌%◌, ◌^◌, ◌==◌, if◌then◌else◌, List, [], ◌∷◌, ◌++◌, length, codes, decimal, replicate, slice_index, ℤ, unsigned_abs}
+use Rattle.std.specs.Prelude.{◌≡◌, refl, ℕ, ◌+◌, ◌*◌, ◌/◌, ◌%◌, ◌^◌, ◌==◌, if◌then◌else◌, List, [], ◌∷◌, ◌++◌, length, codes, decimal, replicate, slice_index, ℤ, unsigned_abs}
 use Rattle.std.proofs.Common.{ap, ◌∙◌}
 use Rattle.algebra.specs.LowestTerms.{top, bottom}
 use Rattle.algebra.specs.Sign.{is_negative}

@@ -5,7 +5,6 @@ use Rattle.c_unit.specs.declared.unit.Array.{Array}
 use Rattle.c_unit.specs.declared.unit.Place.{Place}
 use Rattle.c_unit.specs.declared.unit.Slot.{Slot}
 use Rattle.c_text.specs.declared.print.Part.{Part}
-use Rattle.c_text.specs.declared.print.Part.TheVariants as Part
 use Rattle.c_text.specs.Pieces.{text_of, bytes_of}
 use Rattle.c_text.specs.Layout.{slot_pieces, place_pieces, value_pieces, indent, array_name}
 

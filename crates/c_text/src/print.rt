@@ -178,19 +178,57 @@ fn deeper(depth: u32) -> u32
 }
 
 // A line that calls a function.
-fn print_call<'a>(out: &mut Vec<u8>, depth: u32, name: &'a [u8], to: Place, argument: Part<'a>) -> Result<(), AllocError>
+fn print_call<'a>(
+    out: &mut Vec<u8>,
+    depth: u32,
+    name: &'a [u8],
+    to: Place,
+    argument: Part<'a>,
+) -> Result<(), AllocError>
     ensures ok { OnOk result (out.new.items ≡ out.old.items ++ call_bytes depth name.now to (part_bytes argument.entry)) }
     ensures kept { OnErr result (Extends out.old.items out.new.items) }
 {
-    print_parts(out, &[Part::Indent(depth), Part::Text(name), Part::Text(b"("), Part::Place(to), Part::Text(b", "), argument, Part::Text(b");\n")])
+    print_parts(
+        out,
+        &[
+            Part::Indent(depth),
+            Part::Text(name),
+            Part::Text(b"("),
+            Part::Place(to),
+            Part::Text(b", "),
+            argument,
+            Part::Text(b");\n"),
+        ],
+    )
 }
 
 // A line whose call ends the run where its step passes.
-fn print_step_call(out: &mut Vec<u8>, depth: u32, name: &[u8], to: Place, left: Place, right: Place) -> Result<(), AllocError>
+fn print_step_call(
+    out: &mut Vec<u8>,
+    depth: u32,
+    name: &[u8],
+    to: Place,
+    left: Place,
+    right: Place,
+) -> Result<(), AllocError>
     ensures ok { OnOk result (out.new.items ≡ out.old.items ++ test_bytes depth name.now to left right) }
     ensures kept { OnErr result (Extends out.old.items out.new.items) }
 {
-    print_parts(out, &[Part::Indent(depth), Part::Text(b"if ("), Part::Text(name), Part::Text(b"("), Part::Place(to), Part::Text(b", "), Part::Place(left), Part::Text(b", "), Part::Place(right), Part::Text(b")) return 1;\n")])
+    print_parts(
+        out,
+        &[
+            Part::Indent(depth),
+            Part::Text(b"if ("),
+            Part::Text(name),
+            Part::Text(b"("),
+            Part::Place(to),
+            Part::Text(b", "),
+            Part::Place(left),
+            Part::Text(b", "),
+            Part::Place(right),
+            Part::Text(b")) return 1;\n"),
+        ],
+    )
 }
 
 // A line whose call ends the run where it is of 0.
@@ -198,14 +236,42 @@ fn print_inverse(out: &mut Vec<u8>, depth: u32, to: Place, arg: Place) -> Result
     ensures ok { OnOk result (out.new.items ≡ out.old.items ++ inverse_bytes depth to arg) }
     ensures kept { OnErr result (Extends out.old.items out.new.items) }
 {
-    print_parts(out, &[Part::Indent(depth), Part::Text(b"if (fr_inv("), Part::Place(to), Part::Text(b", "), Part::Place(arg), Part::Text(b")) return 2;\n")])
+    print_parts(
+        out,
+        &[
+            Part::Indent(depth),
+            Part::Text(b"if (fr_inv("),
+            Part::Place(to),
+            Part::Text(b", "),
+            Part::Place(arg),
+            Part::Text(b")) return 2;\n"),
+        ],
+    )
 }
 
-fn print_load(out: &mut Vec<u8>, depth: u32, to: Place, table: u32, at: Slot) -> Result<(), AllocError>
+fn print_load(
+    out: &mut Vec<u8>,
+    depth: u32,
+    to: Place,
+    table: u32,
+    at: Slot,
+) -> Result<(), AllocError>
     ensures ok { OnOk result (out.new.items ≡ out.old.items ++ load_bytes depth to table at) }
     ensures kept { OnErr result (Extends out.old.items out.new.items) }
 {
-    print_parts(out, &[Part::Indent(depth), Part::Text(b"fr_load("), Part::Place(to), Part::Text(b", &K"), Part::Number(table as u64), Part::Text(b"["), Part::Slot(at), Part::Text(b"]);\n")])
+    print_parts(
+        out,
+        &[
+            Part::Indent(depth),
+            Part::Text(b"fr_load("),
+            Part::Place(to),
+            Part::Text(b", &K"),
+            Part::Number(table as u64),
+            Part::Text(b"["),
+            Part::Slot(at),
+            Part::Text(b"]);\n"),
+        ],
+    )
 }
 
 fn print_header(out: &mut Vec<u8>, depth: u32, turns: u32) -> Result<(), AllocError>
@@ -213,7 +279,21 @@ fn print_header(out: &mut Vec<u8>, depth: u32, turns: u32) -> Result<(), AllocEr
     ensures kept { OnErr result (Extends out.old.items out.new.items) }
 {
     let counter = Part::Number(depth as u64);
-    print_parts(out, &[Part::Indent(depth), Part::Text(b"for (int i"), counter, Part::Text(b" = 0; i"), counter, Part::Text(b" < "), Part::Number(turns as u64), Part::Text(b"; i"), counter, Part::Text(b"++) {\n")])
+    print_parts(
+        out,
+        &[
+            Part::Indent(depth),
+            Part::Text(b"for (int i"),
+            counter,
+            Part::Text(b" = 0; i"),
+            counter,
+            Part::Text(b" < "),
+            Part::Number(turns as u64),
+            Part::Text(b"; i"),
+            counter,
+            Part::Text(b"++) {\n"),
+        ],
+    )
 }
 
 #[cycle(printer)]
@@ -226,9 +306,15 @@ fn print_statement(out: &mut Vec<u8>, depth: u32, statement: &CStmt) -> Result<(
         CStmt::Copy { to, arg } => print_call(out, depth, b"fr_copy", *to, Part::Place(*arg)),
         CStmt::Abs { to, arg } => print_call(out, depth, b"fr_abs", *to, Part::Place(*arg)),
         CStmt::Inv { to, arg } => print_inverse(out, depth, *to, *arg),
-        CStmt::Add { to, left, right } => print_step_call(out, depth, b"fr_add", *to, *left, *right),
-        CStmt::Sub { to, left, right } => print_step_call(out, depth, b"fr_sub", *to, *left, *right),
-        CStmt::Mul { to, left, right } => print_step_call(out, depth, b"fr_mul", *to, *left, *right),
+        CStmt::Add { to, left, right } => print_step_call(
+            out, depth, b"fr_add", *to, *left, *right,
+        ),
+        CStmt::Sub { to, left, right } => print_step_call(
+            out, depth, b"fr_sub", *to, *left, *right,
+        ),
+        CStmt::Mul { to, left, right } => print_step_call(
+            out, depth, b"fr_mul", *to, *left, *right,
+        ),
         CStmt::Load { to, table, at } => print_load(out, depth, *to, *table, *at),
         CStmt::For { turns, body } => {
             print_header(out, depth, *turns)?;
@@ -257,7 +343,14 @@ fn print_items(out: &mut Vec<u8>, items: &[Ratio]) -> Result<(), AllocError>
     let Some((first, others)) = items.split_first() else {
         return Ok(());
     };
-    print_parts(out, &[Part::Text(b" { "), Part::Fraction(*first), Part::Text(b" }")])?;
+    print_parts(
+        out,
+        &[
+            Part::Text(b" { "),
+            Part::Fraction(*first),
+            Part::Text(b" }"),
+        ],
+    )?;
     print_more_items(out, others)
 }
 
@@ -266,7 +359,14 @@ fn print_more_items(out: &mut Vec<u8>, items: &[Ratio]) -> Result<(), AllocError
     ensures kept { OnErr result (Extends out.old.items out.new.items) }
 {
     for item in items {
-        print_parts(out, &[Part::Text(b", { "), Part::Fraction(*item), Part::Text(b" }")])?;
+        print_parts(
+            out,
+            &[
+                Part::Text(b", { "),
+                Part::Fraction(*item),
+                Part::Text(b" }"),
+            ],
+        )?;
     }
     Ok(())
 }
@@ -275,7 +375,16 @@ fn print_table(out: &mut Vec<u8>, number: usize, items: &[Ratio]) -> Result<(), 
     ensures ok { OnOk result (out.new.items ≡ out.old.items ++ text_of (table_pieces number items.now)) }
     ensures kept { OnErr result (Extends out.old.items out.new.items) }
 {
-    print_parts(out, &[Part::Text(b"  static const fr_lit K"), Part::Number(number as u64), Part::Text(b"["), Part::Number(items.len() as u64), Part::Text(b"] = {")])?;
+    print_parts(
+        out,
+        &[
+            Part::Text(b"  static const fr_lit K"),
+            Part::Number(number as u64),
+            Part::Text(b"["),
+            Part::Number(items.len() as u64),
+            Part::Text(b"] = {"),
+        ],
+    )?;
     print_items(out, items)?;
     print_text(out, b" };\n")
 }
@@ -296,13 +405,28 @@ fn print_enum(out: &mut Vec<u8>, fun: &CFun) -> Result<(), AllocError>
     ensures kept { OnErr result (Extends out.old.items out.new.items) }
 {
     let name = Part::Text(fun.name.as_slice());
-    print_parts(out, &[
-        Part::Text(b"enum { "), name, Part::Text(b"_X = "), Part::Number(fun.x as u64),
-        Part::Text(b", "), name, Part::Text(b"_W = "), Part::Number(fun.w as u64),
-        Part::Text(b", "), name, Part::Text(b"_T = "), Part::Number(fun.t as u64),
-        Part::Text(b", "), name, Part::Text(b"_A = "), Part::Number(fun.a as u64),
-        Part::Text(b" };\n"),
-    ])
+    print_parts(
+        out,
+        &[
+            Part::Text(b"enum { "),
+            name,
+            Part::Text(b"_X = "),
+            Part::Number(fun.x as u64),
+            Part::Text(b", "),
+            name,
+            Part::Text(b"_W = "),
+            Part::Number(fun.w as u64),
+            Part::Text(b", "),
+            name,
+            Part::Text(b"_T = "),
+            Part::Number(fun.t as u64),
+            Part::Text(b", "),
+            name,
+            Part::Text(b"_A = "),
+            Part::Number(fun.a as u64),
+            Part::Text(b" };\n"),
+        ],
+    )
 }
 
 // The signature, and the slots of T and A.
@@ -311,12 +435,23 @@ fn print_opening(out: &mut Vec<u8>, fun: &CFun) -> Result<(), AllocError>
     ensures kept { OnErr result (Extends out.old.items out.new.items) }
 {
     let t = Part::Number(fun.t as u64);
-    print_parts(out, &[
-        Part::Text(b"int "), Part::Text(fun.name.as_slice()), Part::Text(b"(const fr *X, const fr *W, fr *A)\n{\n"),
-        Part::Text(b"  fr T["), t, Part::Text(b"];\n"),
-        Part::Text(b"  fr_clear(T, "), t, Part::Text(b");\n"),
-        Part::Text(b"  fr_clear(A, "), Part::Number(fun.a as u64), Part::Text(b");\n"),
-    ])
+    print_parts(
+        out,
+        &[
+            Part::Text(b"int "),
+            Part::Text(fun.name.as_slice()),
+            Part::Text(b"(const fr *X, const fr *W, fr *A)\n{\n"),
+            Part::Text(b"  fr T["),
+            t,
+            Part::Text(b"];\n"),
+            Part::Text(b"  fr_clear(T, "),
+            t,
+            Part::Text(b");\n"),
+            Part::Text(b"  fr_clear(A, "),
+            Part::Number(fun.a as u64),
+            Part::Text(b");\n"),
+        ],
+    )
 }
 
 fn print_function(out: &mut Vec<u8>, fun: &CFun) -> Result<(), AllocError>
@@ -330,15 +465,22 @@ fn print_function(out: &mut Vec<u8>, fun: &CFun) -> Result<(), AllocError>
     print_text(out, b"  return 0;\n}\n")
 }
 
+fn print_functions(out: &mut Vec<u8>, funs: &[CFun]) -> Result<(), AllocError>
+    ensures ok { OnOk result (out.new.items ≡ out.old.items ++ text_of (funs_pieces funs.now)) }
+    ensures kept { OnErr result (Extends out.old.items out.new.items) }
+{
+    for fun in funs {
+        print_function(out, fun)?;
+    }
+    Ok(())
+}
+
 fn print_all(out: &mut Vec<u8>, unit: &CUnit) -> Result<(), AllocError>
     ensures ok { OnOk result (out.new.items ≡ out.old.items ++ canonical unit.now) }
     ensures kept { OnErr result (Extends out.old.items out.new.items) }
 {
     print_text(out, b"#include \"fr.h\"\n")?;
-    for fun in unit.funs.as_slice() {
-        print_function(out, fun)?;
-    }
-    Ok(())
+    print_functions(out, unit.funs.as_slice())
 }
 
 /// Appends the canonical text of the unit. Where memory runs out, `out` holds what it held.

@@ -1,4 +1,4 @@
-use Rattle.std.proofs.Common.{◌∙◌, sym, append_assoc, rules, ◌++◌}
+use Rattle.std.proofs.Common.{append_assoc, rules}
 use Rattle.c_text.proofs.Texts.{text_steps}
 use Rattle.std.proofs.lemmas.Result.{IfOk-equal}
 use Rattle.c_text.proofs.Appended.{kept_behind}
