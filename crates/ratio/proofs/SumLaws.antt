@@ -8,15 +8,17 @@ use Rattle.algebra.specs.Sound.{ring}
 use Prim.Native.Nat.{◌∣◌}
 use native.Mathlib.Nat as N
 use Rattle.algebra.specs.Gcd.{gcd}
-use Rattle.ratio.specs.Value.{Fits, pair_of, fraction_of}
-use Rattle.ratio.specs.declared.Ratio.{Ratio}
+use Rattle.ratio.specs.Value.{pair_of, fraction_of}
+use Rattle.ratio.specs.Parts.{Fits}
+use Rattle.ratio.specs.declared.reduced.Ratio.{Ratio}
 use Rattle.algebra.specs.Fraction.{same, pair_sum, add}
 use Rattle.std.specs.Int.{w128}
 use Rattle.algebra.specs.Sign.{signed, is_negative}
 use Rattle.std.proofs.lemmas.Nat.Gcd.{dvd_trans}
 use Rattle.algebra.specs.GcdLaws.{IsCoprime, coprime_from_gcd, gcd_from_coprime, gcd_of_multiples, coprime_parts, coprime-mul, divides_other}
 use Rattle.algebra.specs.GcdLaws.{gcd_positive_left, gcd_positive_right, part_left, part_right, positive_part}
-use Rattle.ratio.proofs.ProductLaws.{quotient, signed-mul, plain_integer}
+use Rattle.ratio.proofs.ProductLaws.{quotient, plain_integer}
+use Rattle.algebra.proofs.Signs.{signed-mul}
 
 -- the size of a difference of naturals
 difference_sizes : (a b : ℕ) → (a ≡ unsigned_abs (sub_ℕ a b) + b) ⊎ (b ≡ unsigned_abs (sub_ℕ a b) + a)
