@@ -17,3 +17,4 @@ pub mod ReferenceIntegrals
 pub mod Linear
 pub mod MassShare
 pub mod Nodes
+pub mod PulledBackDerivative

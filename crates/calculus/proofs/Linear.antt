@@ -35,15 +35,15 @@ signed-scaled zero c p = refl
 signed-scaled (suc zero) c p = sym (L.mul-neg polynomials c p)
 signed-scaled (suc (suc n)) c p = signed-scaled n c p
 
-sum_below-same : (n : ℕ) (f g : ℕ → Polynomial) → ((k : ℕ) → f k ≡ g k) → sum_below n f ≡ sum_below n g
+pub sum_below-same : (n : ℕ) (f g : ℕ → Polynomial) → ((k : ℕ) → f k ≡ g k) → sum_below n f ≡ sum_below n g
 sum_below-same zero f g h = refl
 sum_below-same (suc n) f g h = ap₂ plus (sum_below-same n f g h) (h n)
 
-sum_below-plus : (n : ℕ) (f g : ℕ → Polynomial) → sum_below n (λ k. plus (f k) (g k)) ≡ plus (sum_below n f) (sum_below n g)
+pub sum_below-plus : (n : ℕ) (f g : ℕ → Polynomial) → sum_below n (λ k. plus (f k) (g k)) ≡ plus (sum_below n f) (sum_below n g)
 sum_below-plus zero f g = sym (plus-nil nil)
 sum_below-plus (suc n) f g = ap (λ x. plus x (plus (f n) (g n))) (sum_below-plus n f g) ∙ L.add_medial polynomials _ _ _ _
 
-sum_below-scaled : (n : ℕ) (c : Polynomial) (f : ℕ → Polynomial) → sum_below n (λ k. times c (f k)) ≡ times c (sum_below n f)
+pub sum_below-scaled : (n : ℕ) (c : Polynomial) (f : ℕ → Polynomial) → sum_below n (λ k. times c (f k)) ≡ times c (sum_below n f)
 sum_below-scaled zero c f = sym (L.mul-zero polynomials c)
 sum_below-scaled (suc n) c f = ap (λ x. plus x (times c (f n))) (sum_below-scaled n c f) ∙ sym (times-plus c _ _)
 

@@ -10,3 +10,4 @@ pub mod Simplex
 pub mod Integral
 pub mod LocalFunction
 pub mod Mass
+pub mod Jacobian

@@ -1,11 +1,12 @@
 //! What is proved of the definitions alone. Each law is the contract of a function that does nothing, for provers to call or cite.
 
-ghost use Rattle.std.specs.Prelude.{◌≡◌, ◌≢◌, ℕ, suc, ◌+◌, ◌*◌, ◌<◌, false, List, [], ◌∷◌, length};
+ghost use Rattle.std.specs.Prelude.{◌≡◌, ◌≢◌, ℕ, suc, ◌+◌, ◌*◌, ◌<◌, true, false, List, [], ◌∷◌, length};
 ghost use Rattle.algebra.specs.Fraction.{Fraction, zero_fraction, one_fraction, mul, absolute, is_zero_fraction};
 ghost use Rattle.calculus.specs.Point.{Point};
-ghost use Rattle.calculus.specs.Polynomial.{Polynomial, one, times, minus, constant, coordinate, composed, power, whole, value};
-ghost use Rattle.calculus.specs.Simplex.{Simplex, IsCell, dimension, volume, reference, affine};
-ghost use Rattle.calculus.specs.Integral.{shadow_integral, cell_integral, pulled_back_integral, integral_value};
+ghost use Rattle.calculus.specs.Polynomial.{Polynomial, one, times, minus, constant, coordinate, derivative, composed, power, whole, value};
+ghost use Rattle.calculus.specs.Simplex.{Simplex, IsCell, dimension, volume, reference, affine, is_less};
+ghost use Rattle.calculus.specs.Jacobian.{inverse_jacobian};
+ghost use Rattle.calculus.specs.Integral.{sum_below, shadow_integral, cell_integral, pulled_back_integral, integral_value};
 ghost use Rattle.calculus.specs.LocalFunction.{factorial, degree_of, local_function, node_in};
 ghost use Rattle.calculus.specs.Mass.{mass_factor, mass_density};
 
@@ -54,6 +55,13 @@ pub fn reference_integrals()
 pub fn local_functions()
     ensures { (v : Simplex) → IsCell v → is_zero_fraction (volume v) ≡ false → (weights : List ℕ) →
         composed (affine v) (local_function v weights) ≡ local_function (reference (dimension v)) weights }
+{}
+
+/// A derivative after the affine map of a cell that is not flat: the derivatives on the reference cell, times the inverse of the Jacobian.
+pub fn derivatives()
+    ensures { (v : Simplex) → IsCell v → is_zero_fraction (volume v) ≡ false → (i : ℕ) → is_less i (dimension v) ≡ true → (p : Polynomial) →
+        composed (affine v) (derivative i p)
+        ≡ sum_below (dimension v) (λ a. times (constant (inverse_jacobian v a i)) (derivative a (composed (affine v) p))) }
 {}
 
 /// A local function is 1 at its own node and 0 at the other nodes of its degree.
