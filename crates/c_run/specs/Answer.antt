@@ -1,7 +1,7 @@
 -- What a caller sees of a run
 use Rattle.std.specs.Prelude.{ℕ, ◌-◌, ◌^◌, min, List, Bool, true, false}
 use Rattle.algebra.specs.Fraction.{Fraction}
-use Rattle.ratio.specs.declared.Ratio.{Ratio}
+use Rattle.ratio.specs.declared.reduced.Ratio.{Ratio}
 use Rattle.ratio.specs.Value.{fraction_of}
 use Rattle.c_unit.specs.declared.unit.Op.{Op}
 use Rattle.c_unit.specs.Meaning.{Slots, End, Going, fractions_of}

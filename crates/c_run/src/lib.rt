@@ -9,7 +9,6 @@ mod machine;
 mod place;
 mod ret;
 mod statement;
-mod steps;
 
 pub use machine::Machine;
 pub use ret::Ret;

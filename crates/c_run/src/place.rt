@@ -2,7 +2,7 @@
 
 ghost use Rattle.std.specs.Prelude.{◌≡◌, ℕ, List, [], slice_index_or, slice_set};
 ghost use Rattle.algebra.specs.Fraction.{zero_fraction};
-ghost use Rattle.ratio.specs.declared.Ratio.{Ratio as TheRatio};
+ghost use Rattle.ratio.specs.declared.reduced.Ratio.{Ratio as TheRatio};
 ghost use Rattle.ratio.specs.Value.{fraction_of};
 ghost use Rattle.c_unit.specs.Meaning.{address, value_at, put, fractions_of, tables_of, deeper};
 ghost use Rattle.c_run.specs.Answer.{slots_of};

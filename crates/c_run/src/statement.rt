@@ -1,14 +1,13 @@
 // One statement that is not a loop.
 
 ghost use Rattle.std.specs.Prelude.{◌≡◌, List, ℕ, false};
-ghost use Rattle.ratio.specs.declared.Ratio.{Ratio as TheRatio};
+ghost use Rattle.ratio.specs.declared.reduced.Ratio.{Ratio as TheRatio};
 ghost use Rattle.ratio.specs.Value.{fraction_of, valued};
 ghost use Rattle.c_unit.specs.Meaning.{put_or_pass, put_or_zero, run_one, tables_of};
 ghost use Rattle.c_run.specs.Answer.{end_of, is_loop, slots_of};
 
 use crate::place::{Inputs, Turns, address, item, read, write};
 use crate::ret::Ret;
-use crate::steps::{checked_difference, checked_product, checked_sum};
 use c_unit::{CStmt, Op, Place};
 use ratio::Ratio;
 
@@ -84,17 +83,17 @@ pub fn run_statement(s: &CStmt, is: Turns, from: &Inputs, t: &mut [Ratio], a: &m
         CStmt::Add { to, left, right } => {
             let l = read(*left, is, from, t, a);
             let r = read(*right, is, from, t, a);
-            settle(checked_sum(l, r), Op::Add, l, r, *to, is, t, a)
+            settle(l.add(r), Op::Add, l, r, *to, is, t, a)
         }
         CStmt::Sub { to, left, right } => {
             let l = read(*left, is, from, t, a);
             let r = read(*right, is, from, t, a);
-            settle(checked_difference(l, r), Op::Sub, l, r, *to, is, t, a)
+            settle(l.sub(r), Op::Sub, l, r, *to, is, t, a)
         }
         CStmt::Mul { to, left, right } => {
             let l = read(*left, is, from, t, a);
             let r = read(*right, is, from, t, a);
-            settle(checked_product(l, r), Op::Mul, l, r, *to, is, t, a)
+            settle(l.mul(r), Op::Mul, l, r, *to, is, t, a)
         }
         CStmt::Load { to, table, at } => {
             let v = item(from.tables, *table, address(*at, is));

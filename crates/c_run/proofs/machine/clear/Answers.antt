@@ -1,6 +1,6 @@
 use Rattle.std.proofs.Common.{◌≡◌, ◌∙◌, ℕ, zero, suc, ap, ap₂, ◌∷◌, length, refl, replicate}
 use Rattle.algebra.specs.Fraction.{Fraction, zero_fraction}
-use Rattle.ratio.specs.declared.Ratio.{Ratio}
+use Rattle.ratio.specs.declared.reduced.Ratio.{Ratio}
 use Rattle.ratio.specs.Value.{fraction_of}
 use Rattle.c_unit.specs.Meaning.{fractions_of}
 use Rattle.c_run.proofs.machine.clear.Goals as goal
