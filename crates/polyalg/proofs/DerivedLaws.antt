@@ -26,7 +26,7 @@ unit_of (suc zero) = 2 ^ 32
 unit_of (suc (suc k)) = 1
 
 -- what holds of three exponents holds of a list of them
-by_three : (P : List ℕ → Type 0) → ((x y z : ℕ) → P (x ∷ y ∷ z ∷ [])) → (e : List ℕ) → length e ≡ 3 → P e
+pub by_three : (P : List ℕ → Type 0) → ((x y z : ℕ) → P (x ∷ y ∷ z ∷ [])) → (e : List ℕ) → length e ≡ 3 → P e
 by_three P h [] e = absurd (omega arith)
 by_three P h (x ∷ []) e = absurd (omega arith)
 by_three P h (x ∷ y ∷ []) e = absurd (omega arith)

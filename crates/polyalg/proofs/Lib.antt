@@ -4,3 +4,4 @@ pub mod SmallLaws
 pub mod StepLaws
 pub mod ScaledLaws
 pub mod DerivedLaws
+pub mod MergedLaws

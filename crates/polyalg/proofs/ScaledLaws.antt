@@ -1,5 +1,6 @@
 -- Multiples, term by term
-use Rattle.std.proofs.Common.{◌≡◌, ℕ, ◌+◌, ◌<◌, true, false, ◌||◌, is_none, Option, Some, None, List, [], ◌∷◌, ◌++◌, refl, sym, ap, ap₂, ◌∙◌, subst, arith, append-nil, length, drop, get_or, drop-cons, add-one}
+use Rattle.std.proofs.Common.{◌≡◌, ℕ, ◌+◌, ◌-◌, ◌<◌, true, false, ◌||◌, is_none, Option, Some, None, List, [], ◌∷◌, ◌++◌, refl, sym, ap, ap₂, ◌∙◌, subst, arith, append-nil, length, take, drop, length-drop, get_or, drop-cons, add-one}
+use Rattle.std.proofs.lemmas.List.{take_all}
 use Rattle.algebra.specs.Fraction.{Fraction, mul, mul_comm}
 use Rattle.algebra.specs.RingLaws as L
 use Rattle.algebra.specs.Steps.{product}
@@ -17,6 +18,14 @@ use Rattle.polyalg.proofs.StepLaws.{product_is, some_is_not_none, none_is_none}
 -- the terms that are left
 pub first_left : (ts : List Term) (i : ℕ) (t : Term) → i < length ts → t ≡ get_or ts i t → drop i ts ≡ t ∷ drop (i + 1) ts
 first_left ts i t h e = drop-cons ts i t h ∙ ap₂ ◌∷◌ (sym e) (ap (λ n. drop n ts) (sym (add-one i)))
+
+-- the tail that a slice lends
+pub tail_is : (ts : List Term) (i : ℕ) → take (length ts - i) (drop i ts) ≡ drop i ts
+tail_is ts i = take_all (length ts - i) (drop i ts) (omega (arith, length-drop i ts))
+
+pub two_tails : (out mid next ts us : List Term) (i j : ℕ) → mid ≡ out ++ take (length ts - i) (drop i ts) → next ≡ mid ++ take (length us - j) (drop j us)
+    → next ≡ (out ++ drop i ts) ++ drop j us
+two_tails out mid next ts us i j e f = f ∙ ap₂ ◌++◌ (e ∙ ap (λ l. out ++ l) (tail_is ts i)) (tail_is us j)
 
 pub first_term : (left rest : List Term) (t : Term) → left ≡ t ∷ rest → AreTerms left → IsTerm t
 first_term left rest t e a = let r : AreTerms (t ∷ rest) = subst AreTerms e a in r.0

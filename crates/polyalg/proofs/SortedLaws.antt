@@ -42,6 +42,10 @@ rising_between (x ∷ xs) ys zs l a b h =
     (above-append x (xs ++ l ∷ []) zs (above-append x xs (l ∷ []) (above_left x xs (l ∷ ys) a.0) ((above_right x xs (l ∷ ys) a.0).0, tt)) (above_right x xs zs b.0),
      rising_between xs ys zs l a.1 b.1 h)
 
+pub head_above : (xs : List ℕ) (n : ℕ) (ns : List ℕ) → Rising (xs ++ n ∷ ns) → AreAbove n ns
+head_above [] n ns r = r.0
+head_above (x ∷ xs) n ns r = head_above xs n ns r.1
+
 -- ---- keys
 pub keys-append : (k : ℕ) (ts us : List Term) → keys_and k (ts ++ us) ≡ keys_and k ts ++ keys_and k us
 keys-append k [] us = refl
@@ -65,6 +69,10 @@ value_of-kept ts t = go (is_zero_fraction (fraction_of t.c)) refl where
   go : (b : Bool) → is_zero_fraction (fraction_of t.c) ≡ b → value_of (if b then ts else ts ++ t ∷ []) ≡ plus (value_of ts) (term_value t)
   go true h = sym (plus-nil (value_of ts)) ∙ ap (plus (value_of ts)) (sym (monomial_of_zero (fraction_of t.c) t.e h))
   go false h = value_of-append ts (t ∷ []) ∙ ap (plus (value_of ts)) (plus-nil (term_value t))
+
+pub terms-append : (ts us : List Term) → AreTerms ts → AreTerms us → AreTerms (ts ++ us)
+terms-append [] us a b = b
+terms-append (t ∷ ts) us a b = (a.0, terms-append ts us a.1 b)
 
 pub terms_kept : (ts : List Term) (t : Term) → AreTerms ts → (is_zero_fraction (fraction_of t.c) ≡ false → IsTerm t) → AreTerms (kept ts t)
 terms_kept ts t a h = go (is_zero_fraction (fraction_of t.c)) refl where

@@ -9,6 +9,7 @@ mod fault;
 mod term;
 mod terms;
 mod scaled;
+mod sum;
 mod poly;
 
 pub use fault::PolyFault;

@@ -2,13 +2,14 @@
 
 ghost use Rattle.std.specs.Prelude.{◌≡◌, ◌<◌, ◌≤◌, IfOk};
 ghost use Rattle.ratio.specs.Value.{fraction_of};
-ghost use Rattle.calculus.specs.Polynomial.{monomial, constant as constant_polynomial, coordinate, times, derivative};
+ghost use Rattle.calculus.specs.Polynomial.{monomial, constant as constant_polynomial, coordinate, plus, times, derivative};
 ghost use Rattle.polyalg.specs.Terms.{value_of, IsPoly};
-ghost use Rattle.polyalg.specs.Range.{product_passes, derivative_passes, RangeWhere};
+ghost use Rattle.polyalg.specs.Range.{product_passes, derivative_passes, sum_passes, RangeWhere};
 ghost use Rattle.polyalg.specs.Exponents.{total};
 
 use crate::fault::PolyFault;
 use crate::scaled::{derived, scaled};
+use crate::sum::merged;
 use crate::term::Term;
 use ratio::Ratio;
 use std::alloc::{AllocError, Global};
@@ -61,6 +62,15 @@ impl Poly {
             _ => [0, 0, 1],
         };
         single(alloc, e, Ratio::one())
+    }
+
+    /// The sum. `Range` exactly where a sum of two coefficients of the same exponents passes.
+    pub fn add(&self, alloc: Global, o: &Poly) -> Result<Poly, PolyFault>
+        ensures value { IfOk result (λ p. value_of p ≡ plus (value_of self.now) (value_of o.now)) }
+        ensures range { RangeWhere (sum_passes self.now o.now) result }
+    {
+        let terms = merged(alloc, self.terms.as_slice(), o.terms.as_slice())?;
+        Ok(Poly { terms })
     }
 
     /// The polynomial times c. `Range` exactly where the product of a coefficient with c passes.
