@@ -8,3 +8,4 @@ pub mod Equality
 pub mod Tens
 pub mod TextLaws
 pub mod DigitLaws
+pub mod FitLaws
