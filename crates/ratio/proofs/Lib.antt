@@ -9,3 +9,4 @@ pub mod Tens
 pub mod TextLaws
 pub mod DigitLaws
 pub mod FitLaws
+pub mod DecimalLaws

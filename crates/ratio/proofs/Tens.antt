@@ -125,3 +125,16 @@ lowered_stops m k left s p x y small h g ex ey ep e f =
 
     apart : (t : Bool) → t ≡ false → t ≡ true → ⊥
     apart t a b = cc
+
+-- ten to what was left out moves from the number to the power
+pub scaled_moved : (n m z u w up down : ℕ) → n ≡ m * 10 ^ z → z + u + down ≡ up + w → scaled_by_tens m up down ≡ scaled_by_tens n u w
+scaled_moved n m z u w up down e h =
+    same (tens_pair m up down) (tens_pair n u w)
+    (ap pos (turn n m (10 ^ z) (10 ^ u) (10 ^ w) (10 ^ up) (10 ^ down) e
+    (sym (ap (λ k. k * 10 ^ down) (power-add z u)) ∙ sym (power-add (z + u) down) ∙ ap (λ k. 10 ^ k) h ∙ power-add up w)))
+  where
+    turn : (n m a b c d f : ℕ) → n ≡ m * a → a * b * f ≡ d * c → m * d * c ≡ n * b * f
+    turn n m a b c d f e h = N.mul_assoc m d c ∙ ap (λ k. m * k) (sym h) ∙ regroup m a b f ∙ ap (λ k. k * b * f) (sym e)
+      where
+        regroup : (m a b f : ℕ) → m * (a * b * f) ≡ m * a * b * f
+        regroup m a b f = omega arith

@@ -4,7 +4,8 @@ ghost use Rattle.std.specs.Prelude.{◌≡◌, ℕ, ◌≤◌, ◌<◌, ◌^◌,
 ghost use Rattle.std.specs.Option.{SomeIff};
 ghost use Rattle.std.specs.Str.Parse.{AllDigits, IsNumeral, digits_value};
 ghost use Rattle.algebra.specs.Steps.{fitting};
-ghost use Rattle.ratio.specs.NumberText.{Decimal, IsDecimal, IsExponent, decimal_value, scaled_by_tens};
+ghost use Rattle.ratio.specs.NumberText.{Decimal, IsDecimal, IsExponent, IsSignedSize, decimal_value, scaled_by_tens};
+ghost use Rattle.ratio.specs.Digits.{IsFraction, IsSignificant};
 ghost use Rattle.ratio.specs.Value.{valued};
 
 use crate::digits::{appended, digit, split_digits, without_end_zeros};
@@ -33,24 +34,39 @@ fn read_size(digits: &[u8]) -> Option<u16>
     }
 }
 
+fn exponent_of(negative: bool, digits: &[u8]) -> Option<Exponent>
+    ensures { SomeIff result (IsNumeral 10 digits.now × (length digits.now ≤ 3)) (record { negative = negative; size = digits_value 10 digits.now }) }
+{
+    let size = read_size(digits)?;
+    Some(Exponent { negative, size })
+}
+
+// A sign or none, and one to three digits.
+fn read_signed_size(text: &[u8]) -> Option<Exponent>
+    ensures value { (lowered : Bool) (size : ℕ) → IsSignedSize text.now lowered size → result ≡ Some (record { negative = lowered; size = size }) }
+    ensures lawful { IfSome result (λ e. IsSignedSize text.now e.negative e.size) }
+{
+    match text {
+        [b'-', digits @ ..] => exponent_of(true, digits),
+        [b'+', digits @ ..] => exponent_of(false, digits),
+        _ => exponent_of(false, text),
+    }
+}
+
+// Nothing, or `e` or `E` and a signed size.
 fn read_exponent(text: &[u8]) -> Option<Exponent>
     ensures value { (lowered : Bool) (size : ℕ) → IsExponent text.now lowered size → result ≡ Some (record { negative = lowered; size = size }) }
     ensures lawful { IfSome result (λ e. IsExponent text.now e.negative e.size) }
 {
-    let (negative, digits) = match text {
-        [] => {
-            return Some(Exponent {
-                negative: false,
-                size: 0,
-            });
-        }
-        [b'e' | b'E', b'-', digits @ ..] => (true, digits),
-        [b'e' | b'E', b'+', digits @ ..] => (false, digits),
-        [b'e' | b'E', digits @ ..] => (false, digits),
-        _ => return None,
-    };
-    let size = read_size(digits)?;
-    Some(Exponent { negative, size })
+    match text {
+        [] => Some(Exponent {
+            negative: false,
+            size: 0,
+        }),
+        [b'e', rest @ ..] => read_signed_size(rest),
+        [b'E', rest @ ..] => read_signed_size(rest),
+        _ => None,
+    }
 }
 
 fn power_of_ten(k: u128) -> u128
@@ -99,6 +115,18 @@ fn scaled(m: u128, up: u128, down: u128) -> Option<Ratio>
     if up >= down { raised(m, up - down) } else { lowered(m, down - up) }
 }
 
+// The digits before and behind the point without the zeros at the end of them all.
+fn significant<'a>(whole: &'a [u8], fraction: &'a [u8]) -> (&'a [u8], &'a [u8])
+    ensures { IsSignificant whole.now fraction.now result.0.now result.1.now }
+{
+    let behind = without_end_zeros(fraction);
+    if behind.is_empty() {
+        (without_end_zeros(whole), behind)
+    } else {
+        (whole, behind)
+    }
+}
+
 // The digits of a mantissa with the exponent behind them.
 fn assembled(whole: &[u8], fraction: &[u8], exponent: Exponent) -> Option<Ratio>
     requires whole { AllDigits 10 whole.now }
@@ -106,8 +134,7 @@ fn assembled(whole: &[u8], fraction: &[u8], exponent: Exponent) -> Option<Ratio>
     ensures { valued result
         ≡ decimal_value (record { whole = whole.now; fraction = fraction.now; lowered = exponent.negative; exponent = exponent.size }) }
 {
-    let behind = without_end_zeros(fraction);
-    let front = if behind.is_empty() { without_end_zeros(whole) } else { whole };
+    let (front, behind) = significant(whole, fraction);
     let m = appended(appended(0, front)?, behind)?;
     let dropped = (whole.len() - front.len()) as u128;
     let kept = behind.len() as u128;
@@ -115,16 +142,23 @@ fn assembled(whole: &[u8], fraction: &[u8], exponent: Exponent) -> Option<Ratio>
     if exponent.negative { scaled(m, dropped, kept + size) } else { scaled(m, dropped + size, kept) }
 }
 
+// The digits behind a point that the text begins with, and the rest.
+fn split_fraction(text: &[u8]) -> (&[u8], &[u8])
+    ensures { IsFraction text.now result.0.now result.1.now }
+{
+    match text {
+        [b'.', digits @ ..] => split_digits(digits),
+        _ => text.split_at(0),
+    }
+}
+
 /// The decimal that the whole text is, or `None` exactly where it is none or does not fit.
 pub fn read_decimal(text: &[u8]) -> Option<Ratio>
     ensures value { (d : Decimal) → IsDecimal text.now d → valued result ≡ decimal_value d }
     ensures lawful { OnSome result ((d : Decimal) × IsDecimal text.now d) }
 {
-    let (whole, rest) = split_digits(text);
-    let (fraction, rest) = match rest {
-        [b'.', rest @ ..] => split_digits(rest),
-        _ => (&rest[..0], rest),
-    };
+    let (whole, behind) = split_digits(text);
+    let (fraction, rest) = split_fraction(behind);
     if whole.is_empty() && fraction.is_empty() {
         return None;
     }
