@@ -171,3 +171,18 @@ same_split (x ∷ xs) ys (z ∷ zs) ws e dx by dz bw =
     let rest : xs ++ ys ≡ zs ++ ws = cc in
     let more = same_split xs ys zs ws rest dx.1 by dz.1 bw in
     (ap₂ ◌∷◌ first more.0, more.1)
+
+all_taken : (xs : List ℕ) (n : ℕ) → n ≡ length xs → take n xs ≡ xs
+all_taken xs n e = ap (λ k. take k xs) e ∙ whole xs
+  where
+    whole : (xs : List ℕ) → take (length xs) xs ≡ xs
+    whole [] = refl
+    whole (x ∷ xs) = ap (λ l. x ∷ l) (whole xs)
+
+-- a text whose first byte is known
+pub begins : (text : List ℕ) (b : ℕ) → 1 ≤ length text → get_or text 0 0 ≡ b → text ≡ b ∷ take (length text - 1) (drop 1 text)
+begins [] b h e = absurd (omega arith)
+begins (x ∷ xs) b h e = ap (λ c. c ∷ xs) e ∙ ap (λ l. b ∷ l) (sym (all_taken xs (suc (length xs) - 1) (less (length xs))))
+  where
+    less : (n : ℕ) → suc n - 1 ≡ n
+    less n = omega arith

@@ -10,3 +10,4 @@ pub mod TextLaws
 pub mod DigitLaws
 pub mod FitLaws
 pub mod DecimalLaws
+pub mod SignedSizes
