@@ -11,3 +11,4 @@ pub mod DigitLaws
 pub mod FitLaws
 pub mod DecimalLaws
 pub mod SignedSizes
+pub mod GrammarLaws

@@ -7,7 +7,7 @@ ghost use Rattle.ratio.specs.Value.{fraction_of, valued};
 ghost use Rattle.ratio.specs.WrittenText.{text_of};
 
 use crate::decimal;
-use crate::digits::{appended, split_digits};
+use crate::digits::{appended, split_digits, strip_byte};
 use crate::reduced::Ratio;
 use itoa::Buffer;
 use std::alloc::AllocError;
@@ -38,14 +38,15 @@ fn read_quotient(above: &[u8], below: &[u8]) -> Option<Ratio>
     Ratio::new(top as i128, bottom as i128)
 }
 
+// A number without its sign.
 fn read_magnitude(text: &[u8]) -> Option<Ratio>
     ensures value { (m : Magnitude) → IsMagnitude text.now m → valued result ≡ magnitude_value m }
     ensures lawful { OnSome result ((m : Magnitude) × IsMagnitude text.now m) }
 {
     let (above, rest) = split_digits(text);
-    match rest {
-        [b'/', below @ ..] => read_quotient(above, below),
-        _ => decimal::read_decimal(text),
+    match strip_byte(rest, b'/') {
+        Some(below) => read_quotient(above, below),
+        None => decimal::read_decimal(text),
     }
 }
 
@@ -76,9 +77,9 @@ impl Ratio {
         ensures value { (below_zero : Bool) (m : Magnitude) → IsNumber text.now below_zero m → valued result ≡ number_value below_zero m }
         ensures lawful { OnSome result ((below_zero : Bool) × ((m : Magnitude) × IsNumber text.now below_zero m)) }
     {
-        match text {
-            [b'-', size @ ..] => Some(read_magnitude(size)?.neg()),
-            _ => read_magnitude(text),
+        match strip_byte(text, b'-') {
+            Some(size) => Some(read_magnitude(size)?.neg()),
+            None => read_magnitude(text),
         }
     }
 
