@@ -37,17 +37,23 @@ abbrev pub IsSign : List ℕ → Bool → Type 0
 IsSign text true = text ≡ 45 ∷ []
 IsSign text false = (text ≡ []) ⊎ (text ≡ 43 ∷ [])
 
--- `e` or `E`, a sign or none, and one to three digits
-pub record IsWrittenExponent (text : List ℕ) (lowered : Bool) (size : ℕ) : Type 0 where
-  pub mark : ℕ
+-- a sign or none, and one to three digits
+pub record IsSignedSize (text : List ℕ) (lowered : Bool) (size : ℕ) : Type 0 where
   pub sign : List ℕ
   pub digits : List ℕ
-  pub is_mark : (mark ≡ 101) ⊎ (mark ≡ 69)
   pub is_sign : IsSign sign lowered
   pub is_numeral : IsNumeral 10 digits
   pub at_most_three : length digits ≤ 3
   pub size_is : size ≡ digits_value 10 digits
-  pub text_is : text ≡ mark ∷ (sign ++ digits)
+  pub text_is : text ≡ sign ++ digits
+
+-- `e` or `E`, and a signed size
+pub record IsWrittenExponent (text : List ℕ) (lowered : Bool) (size : ℕ) : Type 0 where
+  pub mark : ℕ
+  pub rest : List ℕ
+  pub is_mark : (mark ≡ 101) ⊎ (mark ≡ 69)
+  pub is_signed : IsSignedSize rest lowered size
+  pub text_is : text ≡ mark ∷ rest
 
 -- an exponent, or nothing
 abbrev pub IsExponent : List ℕ → Bool → ℕ → Type 0
