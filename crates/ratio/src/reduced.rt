@@ -11,7 +11,7 @@ use std::cmp::Ordering;
 /// A fraction n/d in lowest terms with d above 0, both at most 2^127 - 1 in size; zero is 0/1.
 ///
 /// Contracts see its value, `fraction_of`: two are equal exactly where their values are.
-#[derive(Clone, Copy, PartialEq, Eq)]
+#[derive(Clone, Copy, Debug, PartialEq, Eq)]
 pub struct Ratio {
     n: i128,
     d: u128,
