@@ -26,7 +26,7 @@ bottom_reads r = by_one r.d _ r.lowest
 pub below : (n : ℕ) → n < 2 ^ 127 → below_limit n ≡ true
 below n h = grind arith
 
-pub below_is : (n : ℕ) → below_limit n ≡ true → n < 2 ^ 127
+below_is : (n : ℕ) → below_limit n ≡ true → n < 2 ^ 127
 below_is n h = ltb-true n (2 ^ 127) h
 
 pub and_true : (a b : Bool) → a ≡ true → b ≡ true → (a && b) ≡ true

@@ -39,7 +39,7 @@ fn build(negative: bool, top: u128, bottom: u128) -> Option<Ratio>
 impl Ratio {
     ghost use Rattle.ratio.specs.Value.{fraction_of, valued};
     ghost use Rattle.ratio.specs.Parts.{Fits, SumFits};
-    ghost use Rattle.algebra.specs.Fraction.{mul as times, add as plus, zero_fraction, one_fraction, negative as minus, absolute, inverse, of_integer, is_zero_fraction};
+    ghost use Rattle.algebra.specs.Fraction.{mul as times, add as plus, zero_fraction, one_fraction, negative as minus, absolute, is_zero_fraction};
     ghost use Rattle.algebra.specs.LowestTerms.{top, bottom};
     ghost use Rattle.algebra.specs.Order.{compare_to_zero};
     ghost use Rattle.algebra.specs.Steps.{product, sum, difference, reciprocal, quotient};
@@ -140,23 +140,6 @@ impl Ratio {
         ensures { result ≡ compare_to_zero (fraction_of self) }
     {
         self.n.cmp(&0)
-    }
-
-    // A whole number.
-    pub(crate) fn whole(n: u128) -> Ratio
-        requires { n < 2 ^ 127 }
-        ensures { fraction_of result ≡ of_integer (pos n) }
-    {
-        Ratio { n: n as i128, d: 1 }
-    }
-
-    // The reciprocal of a whole number.
-    pub(crate) fn one_over(d: u128) -> Ratio
-        requires positive { 0 < d }
-        requires fits { d < 2 ^ 127 }
-        ensures { fraction_of result ≡ inverse (of_integer (pos d)) }
-    {
-        Ratio { n: 1, d }
     }
 
     // The quotient of two whole numbers, reduced.

@@ -1,13 +1,11 @@
 // The text of a number.
 
-ghost use Rattle.std.specs.Prelude.{◌≡◌, ◌+◌, ◌≤◌, ◌++◌, ◌∷◌, length, Bool, OnSome, is_ok, if◌then◌else◌};
-ghost use Rattle.std.specs.Str.Parse.{IsNumeral};
-ghost use Rattle.ratio.specs.NumberText.{Decimal, IsDecimal, IsMagnitude, IsNumber, Magnitude, decimal_value, magnitude_value, number_value, quotient_value};
-ghost use Rattle.ratio.specs.Value.{fraction_of, valued};
+ghost use Rattle.std.specs.Prelude.{◌≡◌, ◌+◌, ◌≤◌, ◌++◌, ◌∷◌, length, is_ok, if◌then◌else◌};
+ghost use Rattle.ratio.specs.Value.{fraction_of};
 ghost use Rattle.ratio.specs.WrittenText.{text_of};
 
 use crate::decimal;
-use crate::digits::{appended, split_digits, strip_byte};
+use crate::digits::{appended, split_digits};
 use crate::reduced::Ratio;
 use itoa::Buffer;
 use std::alloc::AllocError;
@@ -26,27 +24,18 @@ fn append_quotient(out: &mut Vec<u8>, top: &[u8], bottom: &[u8]) -> Result<(), A
 }
 
 // Digits, a slash and digits: both at most 2^127 - 1, the second above 0.
-fn read_quotient(above: &[u8], below: &[u8]) -> Option<Ratio>
-    ensures value { IsNumeral 10 above.now → IsNumeral 10 below.now → valued result ≡ quotient_value above.now below.now }
-    ensures lawful { OnSome result (IsNumeral 10 above.now × IsNumeral 10 below.now) }
-{
+fn read_quotient(above: &[u8], below: &[u8]) -> Option<Ratio> {
     if above.is_empty() || below.is_empty() {
         return None;
     }
-    let top = appended(0, above)?;
-    let bottom = appended(0, below)?;
-    Ratio::new(top as i128, bottom as i128)
+    Ratio::new(appended(0, above)? as i128, appended(0, below)? as i128)
 }
 
-// A number without its sign.
-fn read_magnitude(text: &[u8]) -> Option<Ratio>
-    ensures value { (m : Magnitude) → IsMagnitude text.now m → valued result ≡ magnitude_value m }
-    ensures lawful { OnSome result ((m : Magnitude) × IsMagnitude text.now m) }
-{
+fn read_unsigned(text: &[u8]) -> Option<Ratio> {
     let (above, rest) = split_digits(text);
-    match strip_byte(rest, b'/') {
-        Some(below) => read_quotient(above, below),
-        None => decimal::read_decimal(text),
+    match rest {
+        [b'/', below @ ..] => read_quotient(above, below),
+        _ => decimal::read_decimal(text),
     }
 }
 
@@ -73,13 +62,10 @@ impl Ratio {
     /// The number that the whole text is, or `None` exactly where it is no number or does not fit.
     ///
     /// A number is `-` or nothing, then either digits, `/` and digits, or a decimal as `read_decimal` takes it.
-    pub fn read(text: &[u8]) -> Option<Ratio>
-        ensures value { (below_zero : Bool) (m : Magnitude) → IsNumber text.now below_zero m → valued result ≡ number_value below_zero m }
-        ensures lawful { OnSome result ((below_zero : Bool) × ((m : Magnitude) × IsNumber text.now below_zero m)) }
-    {
-        match strip_byte(text, b'-') {
-            Some(size) => Some(read_magnitude(size)?.neg()),
-            None => read_magnitude(text),
+    pub fn read(text: &[u8]) -> Option<Ratio> {
+        match text {
+            [b'-', size @ ..] => Some(read_unsigned(size)?.neg()),
+            _ => read_unsigned(text),
         }
     }
 
@@ -87,10 +73,7 @@ impl Ratio {
     ///
     /// A decimal is digits, or digits with one point before, between or behind them, then perhaps `e` or `E`, a sign or none, and one to
     /// three digits. It has no sign and no slash.
-    pub fn read_decimal(text: &[u8]) -> Option<Ratio>
-        ensures value { (d : Decimal) → IsDecimal text.now d → valued result ≡ decimal_value d }
-        ensures lawful { OnSome result ((d : Decimal) × IsDecimal text.now d) }
-    {
+    pub fn read_decimal(text: &[u8]) -> Option<Ratio> {
         decimal::read_decimal(text)
     }
 }

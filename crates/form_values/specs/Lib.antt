@@ -1,0 +1,2 @@
+pub mod FormValues
+pub mod Shares

@@ -1,0 +1,4 @@
+//! What the matrix of a form is: its values on the global basis functions, apart from any assembly.
+//!
+//! The definitions stand in `specs/`. The crate has no code of its own: each function of `laws` states what is proved of them.
+#![tactic(auto)]
