@@ -1,5 +1,5 @@
 -- What a decimal stands for, from its significant digits
-use Rattle.std.proofs.Common.{◌≡◌, ℕ, ◌+◌, ◌-◌, ◌*◌, ◌<◌, ◌≤◌, ◌^◌, List, ◌++◌, length, replicate, refl, sym, ◌∙◌, ap, subst, arith, Bool, true, false, Option, None, if◌then◌else◌}
+use Rattle.std.proofs.Common.{◌≡◌, ℕ, ◌+◌, ◌-◌, ◌*◌, ◌<◌, ◌≤◌, ◌^◌, List, ◌++◌, length, refl, sym, ◌∙◌, ap, subst, arith, Bool, true, false, None, if◌then◌else◌}
 use native.Mathlib.Nat as N
 use Rattle.std.specs.Str.Parse.{AllDigits, digits_value, digits_value_after}
 use Rattle.algebra.specs.Steps.{below_limit, fitting}

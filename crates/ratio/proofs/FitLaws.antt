@@ -1,5 +1,5 @@
 -- When a fraction fits
-use Rattle.std.proofs.Common.{◌≡◌, ℕ, zero, suc, ℤ, pos, ◌*◌, ◌/◌, ◌<◌, ◌≤◌, ◌^◌, refl, sym, ◌∙◌, ap, ap₂, subst, subst₂, arith, unsigned_abs, Bool, true, false, Option, None, Some, if◌then◌else◌}
+use Rattle.std.proofs.Common.{◌≡◌, ℕ, ◌*◌, ◌/◌, ◌<◌, ◌≤◌, ◌^◌, refl, sym, ◌∙◌, ap, subst, subst₂, arith, unsigned_abs, Bool, true, false, None, Some, if◌then◌else◌}
 use Prim.Native.Nat.{◌∣◌}
 use native.Mathlib.Nat as N
 use mathlib.Core.Quot.{mk}
@@ -9,7 +9,6 @@ use Rattle.algebra.specs.GcdLaws.{IsGcd-gcd, gcd-scaled, gcd_positive_right, par
 use Rattle.algebra.specs.Steps.{fits, fitting}
 use Rattle.ratio.specs.declared.reduced.Ratio.{Ratio}
 use Rattle.ratio.specs.Value.{fraction_of}
-use Rattle.ratio.specs.Parts.{Fits}
 use Rattle.ratio.proofs.Reading.{top_reads, bottom_reads, below, and_true, pair_fits, fits_pair}
 
 -- a ratio's value fits

@@ -1,16 +1,16 @@
 -- A text is a number in one way
-use Rattle.std.proofs.Common.{◌≡◌, ℕ, zero, suc, ◌+◌, ◌<◌, ◌≤◌, ◌⊎◌, inl, inr, List, [], ◌∷◌, ◌++◌, length, refl, sym, ◌∙◌, ap, ap₂, subst, arith, lit<, append_assoc, Bool, true, false, Option, None, Some}
+use Rattle.std.proofs.Common.{◌≡◌, ℕ, ◌<◌, ◌⊎◌, inl, inr, List, [], ◌∷◌, ◌++◌, length, refl, sym, ◌∙◌, ap, ap₂, subst, arith, lit<, append_assoc, Bool, Option, None, Some}
 use native.Mathlib.Nat as N
 use Rattle.std.specs.Char.{digit_value}
 use Rattle.std.specs.Option.{OnSome}
-use Rattle.std.specs.Str.Parse.{AllDigits, IsNumeral}
+use Rattle.std.specs.Str.Parse.{AllDigits}
 use Rattle.std.proofs.lemmas.Str.Parse.{digit_from_value}
 use Rattle.ratio.specs.declared.decimal.Exponent.{Exponent}
 use Rattle.ratio.specs.Digits.{BeginsOtherwise, IsFraction}
-use Rattle.ratio.specs.NumberText.{Decimal, IsMantissa, IsDecimal, IsExponent, IsWrittenExponent, Magnitude, Quotient, Point, IsMagnitude, decimal_value}
+use Rattle.ratio.specs.NumberText.{Decimal, IsDecimal, IsExponent, decimal_value}
 use Rattle.ratio.proofs.DigitLaws.{same_split}
 
-below_digits : (c : ℕ) → c < 48 → ¬ (digit_value c < 10)
+pub below_digits : (c : ℕ) → c < 48 → ¬ (digit_value c < 10)
 below_digits c h = λ d. let r = digit_from_value c d in absurd (omega arith)
 
 above_digits : (c : ℕ) → 57 < c → ¬ (digit_value c < 10)
@@ -45,7 +45,10 @@ exponent_first text lowered size b cs l (inr w) = λ e. other w.mark w.is_mark (
     other mark (inl e) g = absurd (omega arith)
     other mark (inr e) g = absurd (omega arith)
 
-tails : (b : ℕ) (xs ys : List ℕ) → b ∷ xs ≡ b ∷ ys → xs ≡ ys
+pub heads : (x y : ℕ) (xs ys : List ℕ) → x ∷ xs ≡ y ∷ ys → x ≡ y
+heads x y xs ys e = cc
+
+pub tails : (b : ℕ) (xs ys : List ℕ) → b ∷ xs ≡ b ∷ ys → xs ≡ ys
 tails b xs ys e = cc
 
 -- where the digits of a decimal end
@@ -76,16 +79,16 @@ decimal_parts text whole behind fraction rest d e dw bb f h = cases f (decimal_r
     cases (inr p) (w, inl q) = (w, p.0 ∙ sym q.1, subst (λ l. IsExponent l d.lowered d.exponent) (sym (p.1 ∙ q.0)) h.is_exponent)
     cases (inr p) (w, inr q) = absurd (p.2 (d.fraction ++ h.behind, q))
 
+apart : (xs ys : List ℕ) → 47 ∷ xs ≡ 46 ∷ ys → ⊥
+apart xs ys k = absurd (omega (arith, heads 47 46 xs ys k))
+
 -- no decimal has a slash behind its first digits
 pub decimal_no_slash : (text whole behind cs : List ℕ) (d : Decimal) → whole ++ behind ≡ text → AllDigits 10 whole → BeginsOtherwise behind → behind ≡ 47 ∷ cs → ¬ (IsDecimal text d)
 decimal_no_slash text whole behind cs d e dw bb s h = cases (decimal_rest text whole behind d e dw bb h).1
   where
-    apart : (xs : List ℕ) → 47 ∷ cs ≡ 46 ∷ xs → ⊥
-    apart xs k = cc
-
     cases : (((behind ≡ h.behind) × (d.fraction ≡ [])) ⊎ (behind ≡ 46 ∷ (d.fraction ++ h.behind))) → ⊥
     cases (inl q) = exponent_first h.behind d.lowered d.exponent 47 cs (lit< tt) h.is_exponent (sym q.0 ∙ s)
-    cases (inr q) = apart (d.fraction ++ h.behind) (sym s ∙ q)
+    cases (inr q) = apart cs (d.fraction ++ h.behind) (sym s ∙ q)
 
 pub no_digits : (whole fraction : List ℕ) (d : Decimal) (text : List ℕ) → whole ≡ [] → fraction ≡ [] → whole ≡ d.whole → fraction ≡ d.fraction → ¬ (IsDecimal text d)
 no_digits whole fraction d text ew ef gw gf h = N.lt_irrefl 0 (subst (λ n. 0 < n) (ap length (ap₂ ◌++◌ (sym gw ∙ ew) (sym gf ∙ ef))) h.is_mantissa.2)

@@ -12,3 +12,4 @@ pub mod FitLaws
 pub mod DecimalLaws
 pub mod SignedSizes
 pub mod GrammarLaws
+pub mod MagnitudeLaws

@@ -1,5 +1,5 @@
 -- What the parts of a fraction are at a reduced pair, and when a step passes
-use Rattle.std.proofs.Common.{◌≡◌, ℕ, zero, suc, ℤ, pos, negsuc, ◌*ℤ◌, ◌*◌, ◌/◌, ◌<◌, ◌^◌, refl, sym, ◌∙◌, ap, ap₂, arith, unsigned_abs, Bool, true, false, Option, None, Some, IsSome, IfSome, ◌↔◌, ltb-true, ◌&&◌, if◌then◌else◌}
+use Rattle.std.proofs.Common.{◌≡◌, ℕ, ◌*ℤ◌, ◌*◌, ◌/◌, ◌<◌, ◌^◌, refl, sym, ◌∙◌, ap, ap₂, arith, unsigned_abs, Bool, true, false, Option, None, Some, IsSome, IfSome, ◌↔◌, ltb-true, ◌&&◌, if◌then◌else◌}
 use native.Mathlib.Nat as N
 use mathlib.Core.Quot.{mk}
 use Rattle.algebra.specs.Fraction.{Pair, Fraction, add, mul, below_nought, pair_product, pair_sum}

@@ -1,9 +1,9 @@
 -- The exponent that a text writes
-use Rattle.std.proofs.Common.{◌≡◌, ℕ, ◌≤◌, ◌⊎◌, inl, inr, List, [], ◌∷◌, ◌++◌, length, refl, sym, ◌∙◌, ap, subst, Bool, true, false, Option, None, Some, IfSome}
+use Rattle.std.proofs.Common.{◌≡◌, ℕ, ◌≤◌, inl, inr, List, [], ◌∷◌, ◌++◌, length, refl, sym, ◌∙◌, subst, Bool, Option, None, Some, IfSome}
 use Rattle.std.specs.Option.{SomeIff}
 use Rattle.std.specs.Str.Parse.{IsNumeral, digits_value}
 use Rattle.ratio.specs.declared.decimal.Exponent.{Exponent}
-use Rattle.ratio.specs.NumberText.{IsSign, IsSignedSize, IsWrittenExponent, IsExponent}
+use Rattle.ratio.specs.NumberText.{IsSign, IsSignedSize, IsExponent}
 
 pub signed_size : (text sign digits : List ℕ) (lowered : Bool) (r : Option Exponent) → text ≡ sign ++ digits → IsSign sign lowered
     → SomeIff r (IsNumeral 10 digits × (length digits ≤ 3)) (record { negative = lowered; size = digits_value 10 digits }) → IfSome r (λ e. IsSignedSize text e.negative e.size)

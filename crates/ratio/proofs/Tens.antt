@@ -1,5 +1,5 @@
 -- Powers of ten, and numbers that are multiplied and divided by them
-use Rattle.std.proofs.Common.{◌≡◌, ℕ, zero, suc, ℤ, pos, ◌+◌, ◌-◌, ◌*◌, ◌/◌, subst₂, ◌<◌, ◌≤◌, ◌^◌, ◌*ℤ◌, lit<, lit≤, refl, sym, ◌∙◌, ap, ap₂, subst, arith, unsigned_abs, Bool, true, false, None, Some}
+use Rattle.std.proofs.Common.{◌≡◌, ℕ, zero, suc, pos, ◌+◌, ◌-◌, ◌*◌, ◌/◌, subst₂, ◌<◌, ◌≤◌, ◌^◌, lit<, lit≤, refl, sym, ◌∙◌, ap, ap₂, subst, arith, unsigned_abs, Bool, true, false, None, Some}
 use native.Mathlib.Nat as N
 use mathlib.Core.Quot.{mk}
 use Rattle.algebra.specs.Fraction.{Pair, Fraction, same, whole, pair_product, mul, inverse, of_integer, zero_fraction}

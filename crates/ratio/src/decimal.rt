@@ -86,7 +86,11 @@ fn raised(m: u128, k: u128) -> Option<Ratio>
         return None;
     }
     let top = m.checked_mul(power_of_ten(k))?;
-    if top < LIMIT { Some(Ratio::whole(top)) } else { None }
+    if top < LIMIT {
+        Some(Ratio::whole(top))
+    } else {
+        None
+    }
 }
 
 // m / 10^k, where it fits: a step that fits makes the denominator at least 2^38 times as large, but for the last one.
@@ -112,7 +116,11 @@ fn scaled(m: u128, up: u128, down: u128) -> Option<Ratio>
     if m == 0 {
         return Some(Ratio::zero());
     }
-    if up >= down { raised(m, up - down) } else { lowered(m, down - up) }
+    if up >= down {
+        raised(m, up - down)
+    } else {
+        lowered(m, down - up)
+    }
 }
 
 // The digits before and behind the point without the zeros at the end of them all.
@@ -139,7 +147,11 @@ fn assembled(whole: &[u8], fraction: &[u8], exponent: Exponent) -> Option<Ratio>
     let dropped = (whole.len() - front.len()) as u128;
     let kept = behind.len() as u128;
     let size = exponent.size as u128;
-    if exponent.negative { scaled(m, dropped, kept + size) } else { scaled(m, dropped + size, kept) }
+    if exponent.negative {
+        scaled(m, dropped, kept + size)
+    } else {
+        scaled(m, dropped + size, kept)
+    }
 }
 
 // The digits behind a point that the text begins with, and the rest.

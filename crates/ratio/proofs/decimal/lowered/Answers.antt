@@ -1,5 +1,4 @@
-use Rattle.std.proofs.Common.{◌≡◌, ℕ, pos, ◌+◌, ◌-◌, ◌*◌, ◌^◌, ◌<◌, ◌≤◌, None, Some, true, sym, ◌∙◌, ap, subst, arith}
-use Rattle.algebra.specs.Steps.{fitting}
+use Rattle.std.proofs.Common.{◌≡◌, ◌-◌, ◌<◌, ◌≤◌, sym, ◌∙◌, ap, subst, arith}
 use Rattle.ratio.specs.NumberText.{scaled_by_tens, power_positive}
 use Rattle.ratio.specs.Value.{fraction_of, valued}
 use Rattle.ratio.proofs.FitLaws.{fitting_of, none_fitting}

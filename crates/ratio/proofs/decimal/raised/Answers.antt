@@ -1,6 +1,5 @@
-use Rattle.std.proofs.Common.{◌≡◌, ◌*◌, ◌^◌, ◌<◌, ◌≤◌, None, Some, sym, ◌∙◌, ap, subst, lit<}
+use Rattle.std.proofs.Common.{◌*◌, ◌^◌, ◌<◌, sym, ◌∙◌, ap, subst, lit<}
 use native.Mathlib.Nat as N
-use Rattle.algebra.specs.Steps.{fitting}
 use Rattle.ratio.specs.NumberText.{scaled_by_tens}
 use Rattle.ratio.specs.Value.{valued}
 use Rattle.ratio.proofs.FitLaws.{fitting_of, none_fitting}

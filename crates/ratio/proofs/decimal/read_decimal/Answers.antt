@@ -1,6 +1,5 @@
-use Rattle.std.proofs.Common.{◌≡◌, ◌<◌, ◌++◌, length, None, Some, sym, ◌∙◌, ap}
+use Rattle.std.proofs.Common.{◌<◌, ◌++◌, length, sym, ◌∙◌}
 use Rattle.ratio.specs.NumberText.{Decimal, IsDecimal}
-use Rattle.ratio.specs.Value.{valued}
 use Rattle.ratio.proofs.DigitLaws.{empty_from_test, some_from_test}
 use Rattle.ratio.proofs.GrammarLaws.{decimal_parts, no_digits, some_before, some_behind, is_decimal, same_decimal, on_some}
 use Rattle.ratio.proofs.decimal.read_decimal.Goals.{else-is_empty-via-then-is_empty+else-is_empty-2, else-is_empty-via-else-is_empty}
@@ -28,10 +27,11 @@ returns-clause-value c = λ d h.
 pub returns-clause-lawful : goal.returns-clause-lawful
 returns-clause-lawful c =
     let some : 0 < length (c.split_digits.result.0.now ++ c.split_fraction.result.0.now) = elim c.else-is_empty.branch [
-      else-is_empty-via-then-is_empty+else-is_empty-2 w ↦ some_behind c.split_digits.result.0.now c.split_fraction.result.0.now (some_from_test c.split_fraction.result.0.now (sym w.is_empty-then-is_empty.ensures ∙ w.if-is_empty-2.false))
-    | else-is_empty-via-else-is_empty w ↦ some_before c.split_digits.result.0.now c.split_fraction.result.0.now (some_from_test c.split_digits.result.0.now (sym c.is_empty.ensures ∙ w.if-is_empty.false))
+      | else-is_empty-via-then-is_empty+else-is_empty-2 w ↦ some_behind c.split_digits.result.0.now c.split_fraction.result.0.now (some_from_test c.split_fraction.result.0.now (sym w.is_empty-then-is_empty.ensures ∙ w.if-is_empty-2.false))
+      | else-is_empty-via-else-is_empty w ↦ some_before c.split_digits.result.0.now c.split_fraction.result.0.now (some_from_test c.split_digits.result.0.now (sym c.is_empty.ensures ∙ w.if-is_empty.false))
     ] in
-    on_some c.assembled.result ((d : Decimal) × IsDecimal c.args.text.now d)
-    (record { whole = c.split_digits.result.0.now; fraction = c.split_fraction.result.0.now; lowered = c.in_ok-exponent.exponent.negative; exponent = c.in_ok-exponent.exponent.size },
-    is_decimal c.args.text.now c.split_digits.result.0.now c.split_digits.result.1.now c.split_fraction.result.0.now c.split_fraction.result.1.now c.in_ok-exponent.exponent.negative c.in_ok-exponent.exponent.size
-    c.split_digits.ensures.whole c.split_digits.ensures.digits c.split_fraction.ensures some c.in_ok-exponent.ensures.lawful)
+    on_some c.assembled.result ((d : Decimal) × IsDecimal c.args.text.now d) (
+      record { whole = c.split_digits.result.0.now; fraction = c.split_fraction.result.0.now; lowered = c.in_ok-exponent.exponent.negative; exponent = c.in_ok-exponent.exponent.size },
+      is_decimal c.args.text.now c.split_digits.result.0.now c.split_digits.result.1.now c.split_fraction.result.0.now c.split_fraction.result.1.now c.in_ok-exponent.exponent.negative c.in_ok-exponent.exponent.size
+          c.split_digits.ensures.whole c.split_digits.ensures.digits c.split_fraction.ensures some c.in_ok-exponent.ensures.lawful,
+    )

@@ -1,4 +1,4 @@
-use Rattle.std.proofs.Common.{◌≡◌, ◌-◌, ◌∷◌, [], length, take, drop, rules}
+use Rattle.std.proofs.Common.{◌≡◌, ◌-◌, ◌∷◌, length, take, drop, rules}
 use Rattle.ratio.proofs.DigitLaws.{begins}
 use Rattle.ratio.proofs.SignedSizes.{behind_mark}
 use Rattle.ratio.proofs.decimal.read_exponent.Goals as goal

@@ -1,4 +1,4 @@
-use Rattle.std.proofs.Common.{◌≡◌, ◌≤◌, sym, ◌∙◌, ap}
+use Rattle.std.proofs.Common.{sym, ◌∙◌, ap}
 use native.Mathlib.Nat as N
 use Rattle.algebra.specs.Steps.{fitting}
 use Rattle.ratio.specs.NumberText.{scaled_by_tens}

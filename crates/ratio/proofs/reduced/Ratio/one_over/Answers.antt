@@ -1,6 +1,5 @@
-use Rattle.std.proofs.Common.{◌≡◌, pos, lit<, refl, sym, ◌∙◌}
+use Rattle.std.proofs.Common.{pos, lit<, refl, sym, ◌∙◌}
 use native.Mathlib.Nat as N
-use Rattle.algebra.specs.Fraction.{Pair}
 use Rattle.algebra.specs.GcdLaws.{IsGcd-gcd}
 use Rattle.ratio.proofs.SignLaws.{has_value}
 use Rattle.ratio.proofs.Tens.{inverse_of_whole}

@@ -1,9 +1,8 @@
-use Rattle.std.proofs.Common.{◌≡◌, pos, ◌<◌, ◌^◌, unsigned_abs, to_z, lit<, refl, sym, ap, subst}
+use Rattle.std.proofs.Common.{pos, ◌<◌, ◌^◌, unsigned_abs, to_z, lit<, refl, sym, subst}
 use Rattle.std.specs.Int.{w128}
 use Rattle.std.proofs.lemmas.Int.{to_z_pos}
 use native.Mathlib.Nat as N
 use Rattle.algebra.specs.Fraction.{whole, of_integer}
-use Rattle.algebra.specs.Gcd.{gcd}
 use Rattle.algebra.specs.GcdLaws.{IsGcd-gcd}
 use Rattle.ratio.proofs.SignLaws.{has_value}
 use Rattle.ratio.proofs.reduced.Ratio.whole.Goals as goal
