@@ -13,3 +13,4 @@ pub mod DecimalLaws
 pub mod SignedSizes
 pub mod GrammarLaws
 pub mod MagnitudeLaws
+pub mod WrittenLaws

@@ -2,7 +2,7 @@
 --
 -- A number is `-` or nothing, then either digits, `/` and digits, or a decimal.
 -- A decimal is digits, or digits with one point before, between or behind them, then perhaps `e` or `E`, a sign or none, and one to three digits.
-use Rattle.std.specs.Prelude.{◌≡◌, ℕ, ◌+◌, ◌*◌, ◌^◌, ◌<◌, ◌≤◌, pos, Bool, true, false, ◌&&◌, ◌⊎◌, List, [], ◌∷◌, ◌++◌, length, ◌==◌, Option, None, if◌then◌else◌}
+use Rattle.std.specs.Prelude.{◌≡◌, ℕ, ◌+◌, ◌*◌, ◌^◌, ◌<◌, ◌≤◌, pos, Bool, true, false, ◌&&◌, ◌⊎◌, List, [], ◌∷◌, ◌++◌, length, ◌==◌, Option, Some, None, if◌then◌else◌}
 use Rattle.std.specs.Str.Parse.{AllDigits, IsNumeral, digits_value}
 use Rattle.std.specs.Fmt.{sign_text}
 use Rattle.std.specs.Option.{option_map}
@@ -124,3 +124,7 @@ magnitude_value (Point d) = decimal_value d
 -- the value of a number that fits
 abbrev pub number_value : Bool → Magnitude → Option Fraction
 number_value below_zero m = if below_zero then option_map negative (magnitude_value m) else magnitude_value m
+
+-- the text is a number with this value, which fits
+abbrev pub IsReadAs : List ℕ → Fraction → Type 0
+IsReadAs text x = (below_zero : Bool) × ((m : Magnitude) × (IsNumber text below_zero m × (number_value below_zero m ≡ Some x)))

@@ -202,3 +202,23 @@ impl Ratio {
         build(negative(t), size / h, bottom)
     }
 }
+
+#[cfg(test)]
+mod tests {
+    use super::*;
+
+    // 1/2^100 + 1/2^100 is 1/2^99, though 2^200 is too wide; and a product is reduced before anything is multiplied.
+    #[test]
+    fn steps_are_reduced_first(rt: HostRuntime) {
+        let small = Ratio::new(1, 1 << 100).expect(&rt, "a fraction");
+        assert!(rt; small.add(small) == Ratio::new(1, 1 << 99));
+        assert!(rt; small.sub(small) == Some(Ratio::zero()));
+        assert!(rt; small.mul(small).is_none());
+        let large = small.inv().expect(&rt, "a reciprocal").neg();
+        assert!(rt; small.mul(large) == Ratio::new(-1, 1));
+        assert!(rt; large.abs() == Ratio::new(1 << 100, 1).expect(&rt, "a number"));
+        assert!(rt; large.cmp_zero() == std::cmp::Ordering::Less);
+        assert!(rt; !large.is_zero() && large.num() == -(1 << 100) && large.den() == 1);
+        assert!(rt; Ratio::new(1, 0).is_none() && Ratio::new(i128::MIN, 1).is_none());
+    }
+}

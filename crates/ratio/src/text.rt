@@ -1,8 +1,10 @@
 // The text of a number.
 
-ghost use Rattle.std.specs.Prelude.{◌≡◌, ◌+◌, ◌≤◌, ◌++◌, ◌∷◌, length, Bool, OnSome, is_ok, if◌then◌else◌};
+ghost use Rattle.std.specs.Prelude.{◌≡◌, ◌+◌, ◌≤◌, ◌++◌, ◌∷◌, length, Bool, true, OnSome, is_ok, if◌then◌else◌};
 ghost use Rattle.std.specs.Str.Parse.{IsNumeral};
-ghost use Rattle.ratio.specs.NumberText.{Decimal, IsDecimal, IsMagnitude, IsNumber, Magnitude, decimal_value, magnitude_value, number_value, quotient_value};
+ghost use Rattle.algebra.specs.Fraction.{Fraction};
+ghost use Rattle.algebra.specs.Steps.{fits};
+ghost use Rattle.ratio.specs.NumberText.{IsReadAs, Decimal, IsDecimal, IsMagnitude, IsNumber, Magnitude, decimal_value, magnitude_value, number_value, quotient_value};
 ghost use Rattle.ratio.specs.Value.{fraction_of, valued};
 ghost use Rattle.ratio.specs.WrittenText.{text_of};
 
@@ -95,6 +97,11 @@ impl Ratio {
     }
 }
 
+/// The law between `write` and `read`: what `write` appends for a value is a number that stands for it, so `read` gives that value.
+pub fn written_is_read()
+    ensures { (x : Fraction) → fits x ≡ true → IsReadAs (text_of x) x }
+{}
+
 #[cfg(test)]
 mod tests {
     use super::*;
@@ -159,6 +166,23 @@ mod tests {
         for text in unlawful {
             assert!(rt; Ratio::read(text).is_none());
         }
+    }
+
+    // Zeros without limit: 1 with 600 zeros behind it and e-600, and 600 zeros behind the point.
+    #[test]
+    fn reads_zeros_without_limit(rt: HostRuntime) {
+        let zeros = [b'0'; 600];
+        let mut text = Vec::new(rt.alloc());
+        text.extend_from_slice(b"1").expect(&rt, "room");
+        text.extend_from_slice(&zeros).expect(&rt, "room");
+        assert!(rt; Ratio::read(&text).is_none());
+        text.extend_from_slice(b"e-600").expect(&rt, "room");
+        assert!(rt; Ratio::read(&text) == Some(Ratio::one()));
+        text.clear();
+        text.extend_from_slice(b"-0.").expect(&rt, "room");
+        text.extend_from_slice(&zeros).expect(&rt, "room");
+        text.extend_from_slice(b"3E+601").expect(&rt, "room");
+        assert!(rt; Ratio::read(&text) == Ratio::new(-3, 1));
     }
 
     #[test]
