@@ -1,5 +1,5 @@
 -- What a step's answer says of the value
-use Rattle.std.proofs.Common.{◌≡◌, refl, sym, ◌∙◌, ap, Bool, true, false, Option, None, Some, if◌then◌else◌}
+use Rattle.std.proofs.Common.{◌≡◌, refl, ap, Bool, true, false, None, Some, if◌then◌else◌}
 use Rattle.algebra.specs.Fraction.{Fraction, add, mul, negative, inverse, is_zero_fraction}
 use Rattle.algebra.specs.Steps.{fits, sum_fits, product, sum, difference, reciprocal}
 

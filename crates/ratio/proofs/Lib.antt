@@ -7,3 +7,10 @@ pub mod QuotientLaws
 pub mod Equality
 pub mod Tens
 pub mod TextLaws
+pub mod DigitLaws
+pub mod FitLaws
+pub mod DecimalLaws
+pub mod SignedSizes
+pub mod GrammarLaws
+pub mod MagnitudeLaws
+pub mod WrittenLaws
