@@ -75,6 +75,10 @@ zero_fraction = mk (whole (pos 0))
 unfoldable pub one_fraction : Fraction
 one_fraction = mk (whole (pos 1))
 
+-- a whole number as a fraction
+unfoldable pub of_integer : ℤ → Fraction
+of_integer z = mk (whole z)
+
 unfoldable pub add : Fraction → Fraction → Fraction
 add = lift₂ Quot-set (λ p q. mk (pair_sum p q)) (λ p q r h. sound (sum_right p q r h)) (λ q r p h. sound (sum_left q r p h))
 

@@ -12,3 +12,4 @@ pub mod GcdLaws
 pub mod Fraction
 pub mod LowestTerms
 pub mod Steps
+pub mod Order

@@ -2,9 +2,9 @@
 use Rattle.std.specs.Prelude.{◌≡◌, refl, ℕ, zero, suc, ◌+◌, ◌*◌, List, [], ◌∷◌, Option, Some, None, replicate, slice_index, slice_index_or, slice_set, map, nat_lt, if◌then◌else◌}
 use Rattle.std.proofs.Common.{ap, ◌∙◌}
 use Rattle.algebra.specs.Fraction.{Fraction, zero_fraction, absolute}
-use Rattle.algebra.specs.Steps.{product, sum, difference}
-use Rattle.ratio.specs.declared.Ratio.{Ratio}
-use Rattle.ratio.specs.Value.{fraction_of, reciprocal}
+use Rattle.algebra.specs.Steps.{product, sum, difference, reciprocal}
+use Rattle.ratio.specs.declared.reduced.Ratio.{Ratio}
+use Rattle.ratio.specs.Value.{fraction_of}
 use Rattle.c_unit.specs.declared.unit.Array.{Array}
 use Rattle.c_unit.specs.declared.unit.Array.TheVariants.{X, W, T, A}
 use Rattle.c_unit.specs.declared.unit.Slot.{Slot}

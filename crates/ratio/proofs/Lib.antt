@@ -1,5 +1,9 @@
+pub mod Twos
 pub mod ProductLaws
 pub mod SumLaws
 pub mod SignLaws
-pub mod Twos
 pub mod Reading
+pub mod QuotientLaws
+pub mod Equality
+pub mod Tens
+pub mod TextLaws

@@ -4,9 +4,10 @@ use Rattle.std.specs.Int.{w128}
 use Rattle.std.proofs.lemmas.Int.{unsigned_abs-mul, fits_signed_from_abs}
 use native.Mathlib.Nat as N
 use Rattle.algebra.specs.Gcd.{gcd}
-use Rattle.ratio.specs.Value.{Fits, pair_of, fraction_of}
+use Rattle.ratio.specs.Value.{pair_of, fraction_of}
+use Rattle.ratio.specs.Parts.{Fits}
 use Rattle.algebra.specs.Sign.{signed, signs_differ}
-use Rattle.ratio.specs.declared.Ratio.{Ratio}
+use Rattle.ratio.specs.declared.reduced.Ratio.{Ratio}
 use Rattle.algebra.specs.Integers.{neg-mul, integers}
 use Rattle.algebra.specs.Solver.{at, ◌⊗◌, minus}
 use Rattle.algebra.specs.Sound.{ring}

@@ -5,8 +5,9 @@ use mathlib.Core.Quot.{mk}
 use Rattle.algebra.specs.Fraction.{Pair, Fraction, add, mul, below_nought, pair_product, pair_sum}
 use Rattle.algebra.specs.Gcd.{gcd}
 use Rattle.algebra.specs.Sign.{signed}
-use Rattle.ratio.specs.declared.Ratio.{Ratio}
-use Rattle.ratio.specs.Value.{fraction_of, pair_of, Fits, SumFits, valued}
+use Rattle.ratio.specs.declared.reduced.Ratio.{Ratio}
+use Rattle.ratio.specs.Value.{fraction_of, pair_of, valued}
+use Rattle.ratio.specs.Parts.{Fits, SumFits}
 use Rattle.algebra.specs.LowestTerms.{top, bottom}
 use Rattle.algebra.specs.Steps.{below_limit, fits, sum_fits, sum_fits_at}
 

@@ -1,8 +1,15 @@
 -- The negative, the absolute value and the reciprocal of a reduced pair
-use Rattle.std.proofs.Common.{◌≡◌, ℕ, ℤ, pos, negsuc, zero, suc, ◌<◌, ◌*ℤ◌, neg_ℤ, refl, sym, ◌∙◌, ap, ap₂, arith, unsigned_abs, Bool, true, false, Option, None, Some, IsSome, IfSome, if◌then◌else◌}
+use Rattle.std.proofs.Common.{◌≡◌, ℕ, ℤ, pos, negsuc, zero, suc, ◌<◌, ◌^◌, ◌*ℤ◌, ◌<ℤ◌, eqb, of_z, int_cmp, neg_ℤ, refl, sym, ◌∙◌, ap, ap₂, arith, unsigned_abs, Bool, true, false, Option, None, Some, IsSome, IfSome, if◌then◌else◌}
+use Rattle.std.specs.Cmp.{int_cmp_is}
+use Rattle.std.proofs.lemmas.Int.{ints}
+use Rattle.std.proofs.lemmas.Bool.Decides.{nat_tests}
 use mathlib.Core.Quot.{mk}
-use Rattle.ratio.specs.declared.Ratio.{Ratio}
-use Rattle.ratio.specs.Value.{pair_of, fraction_of, valued, reciprocal}
+use Rattle.ratio.specs.declared.reduced.Ratio.{Ratio}
+use Rattle.ratio.specs.Value.{pair_of, fraction_of, valued}
+use Rattle.algebra.specs.Steps.{reciprocal}
+use Rattle.std.specs.Int.{w128}
+use Rattle.std.specs.declared.cmp.Ordering.TheVariants.{Less, Equal, Greater}
+use Rattle.algebra.specs.Order.{compare_to_zero}
 use Rattle.algebra.specs.Sign.{signed, is_negative}
 use Rattle.algebra.specs.Fraction.{Pair, same, pair_negative, negative, absolute, when, is_below_zero, below_nought, is_nought, is_zero_fraction, inverse, inverse_parts}
 
@@ -54,3 +61,23 @@ is_reciprocal None s h i v = absurd (no_value i)
     no_value : false ≡ true → ⊥
     no_value e = cc
 is_reciprocal (Some r) s h i v = ap Some v ∙ ap (λ b. if b then None else Some (inverse (fraction_of s))) (sym h)
+
+-- the test of a whole number as the machine makes it
+pub word_is_nought : (n : ℤ) → unsigned_abs n < 2 ^ 127 → eqb (of_z w128 n) 0 ≡ is_nought n
+word_is_nought (pos zero) h = refl
+word_is_nought (pos (suc n)) h = grind (arith, nat_tests)
+word_is_nought (negsuc n) h = grind (arith, nat_tests)
+
+pub nought_of : (s : Ratio) → is_nought s.n ≡ is_zero_fraction (fraction_of s)
+unfolding fraction_of is_zero_fraction
+nought_of s = refl
+
+-- how a whole number compares with 0 is how its fraction does
+compared : (n : ℤ) → int_cmp n (pos 0) ≡ (if is_nought n then Equal else if below_nought n then Less else Greater)
+compared (pos zero) = refl
+compared (pos (suc n)) = sym (int_cmp_is (pos (suc n)) (pos 0) Greater (let above : pos 0 <ℤ pos (suc n) = omega (arith, ints) in above))
+compared (negsuc n) = refl
+
+pub compares : (s : Ratio) → int_cmp s.n (pos 0) ≡ compare_to_zero (fraction_of s)
+unfolding fraction_of is_zero_fraction is_below_zero compare_to_zero
+compares s = compared s.n

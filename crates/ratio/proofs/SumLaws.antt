@@ -8,8 +8,9 @@ use Rattle.algebra.specs.Sound.{ring}
 use Prim.Native.Nat.{◌∣◌}
 use native.Mathlib.Nat as N
 use Rattle.algebra.specs.Gcd.{gcd}
-use Rattle.ratio.specs.Value.{Fits, pair_of, fraction_of}
-use Rattle.ratio.specs.declared.Ratio.{Ratio}
+use Rattle.ratio.specs.Value.{pair_of, fraction_of}
+use Rattle.ratio.specs.Parts.{Fits}
+use Rattle.ratio.specs.declared.reduced.Ratio.{Ratio}
 use Rattle.algebra.specs.Fraction.{same, pair_sum, add}
 use Rattle.std.specs.Int.{w128}
 use Rattle.algebra.specs.Sign.{signed, is_negative}

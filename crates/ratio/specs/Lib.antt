@@ -1,1 +1,3 @@
 pub mod Value
+pub mod Parts
+pub mod WrittenText

@@ -1,0 +1,24 @@
+use Rattle.std.proofs.Common.{sym, ◌∙◌, ◌≤◌, arith}
+use Rattle.algebra.specs.GcdLaws.{gcd-zero}
+use Rattle.ratio.proofs.Twos.{gcd_difference, gcd_comm}
+use Rattle.ratio.proofs.gcd.odd_divisor.Goals as goal
+
+pub loop-y-preserved-then-z-x : goal.loop-y-preserved-then-z-x
+loop-y-preserved-then-z-x c =
+    let below : c.odd_part-z.result ≤ c.loop-y.x = omega arith in
+    record {
+      odd = c.odd_part-z.ensures.odd;
+      same = gcd_difference c.loop-y.x c.odd_part-z.result below ∙ c.odd_part-z.ensures.same c.loop-y.x c.loop-y.invariant.odd ∙ c.loop-y.invariant.same;
+    }
+
+pub loop-y-preserved : goal.loop-y-preserved
+loop-y-preserved c =
+    let below : c.loop-y.x ≤ c.odd_part-z.result = omega arith in
+    record {
+      odd = c.loop-y.invariant.odd;
+      same =
+          gcd_difference c.odd_part-z.result c.loop-y.x below ∙ gcd_comm c.odd_part-z.result c.loop-y.x ∙ c.odd_part-z.ensures.same c.loop-y.x c.loop-y.invariant.odd ∙ c.loop-y.invariant.same;
+    }
+
+pub returns : goal.returns
+returns c = sym (gcd-zero c.loop-y.x c.loop-y.y c.loop-y-test.false) ∙ c.loop-y.invariant.same

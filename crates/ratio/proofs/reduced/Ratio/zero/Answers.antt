@@ -1,0 +1,13 @@
+use Rattle.std.proofs.Common.{refl, lit<, pos}
+use Rattle.algebra.specs.Gcd.{gcd}
+use Rattle.ratio.proofs.SignLaws.{has_value}
+use Rattle.algebra.specs.Fraction.{whole, zero_fraction}
+use Rattle.ratio.proofs.reduced.Ratio.zero.Goals as goal
+
+pub invariant_of-result : goal.invariant_of-result
+unfolding gcd
+invariant_of-result c = record { positive = lit< tt; small = lit< tt; fits = lit< tt; lowest = refl }
+
+pub returns : goal.returns
+unfolding zero_fraction
+returns c = has_value _ (whole (pos 0)) refl refl
