@@ -13,3 +13,4 @@ pub mod Fraction
 pub mod LowestTerms
 pub mod Steps
 pub mod Order
+pub mod Sums

@@ -1,2 +1,10 @@
-//! Kernels as C text.
+//! Kernels as C text: the text of a unit, and the unit of a text.
+//!
+//! `print_unit` writes the canonical text, `read_unit` reads any text of the language. The grammar and the canonical text are
+//! definitions of `specs/`, and `docs/KERNEL_TEXT.md` describes both.
 #![tactic(auto)]
+
+mod print;
+
+pub use c_unit::{Array, CFun, CStmt, CUnit, Op, Place, Slot};
+pub use print::print_unit;

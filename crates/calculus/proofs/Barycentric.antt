@@ -1,12 +1,12 @@
 -- Barycentric coordinates after the affine map: those of the reference cell
-use Rattle.std.proofs.Common.{◌≡◌, ℕ, zero, suc, ◌+◌, Bool, true, false, refl, sym, ◌∙◌, ap, ap₂, List, [], ◌∷◌, pos}
+use Rattle.std.proofs.Common.{◌≡◌, ℕ, zero, suc, ◌+◌, true, false, refl, sym, ◌∙◌, ap, ap₂, List, [], ◌∷◌, pos}
 use Rattle.algebra.specs.Ring.{Ring}
-use Rattle.algebra.specs.Solver.{Expr, at, num, ◌⊕◌, ◌⊗◌, ◌⊖◌, unity, minus as opposite}
+use Rattle.algebra.specs.Solver.{Expr, at, num, ◌⊕◌, ◌⊗◌, ◌⊖◌, unity}
 use Rattle.algebra.specs.Sound as Solve
-use Rattle.algebra.specs.Fraction.{Fraction, fractions, zero_fraction, one_fraction, add, mul, inverse, mul_inverse, is_zero_fraction, negative as minus_fraction}
+use Rattle.algebra.specs.Fraction.{Fraction, fractions, add, inverse, mul_inverse, is_zero_fraction, negative as minus_fraction}
 use Rattle.calculus.specs.Point.{Point}
 use Rattle.calculus.specs.Polynomial.{Polynomial, nil, one, plus, times, negative, minus, constant, coordinate, composed, polynomials, times_comm}
-use Rattle.calculus.specs.Simplex.{Simplex, IsCell, dimension, volume, volume_in, with_vertex, moving_point, constant_point, constant_points, barycentric, reference, affine, is_less}
+use Rattle.calculus.specs.Simplex.{Simplex, IsCell, dimension, volume, volume_in, with_vertex, moving_point, constant_point, constant_points, barycentric, affine, is_less}
 use Rattle.calculus.proofs.PolynomialLaws.{constant-add, constant-mul, constant-negative, constant-one, constant-zero, composed-one, composed-nil, composed-times, composed-plus, composed-negative, composed-constant, composed-coordinate}
 
 -- ---- a map of rings takes volume factors to volume factors

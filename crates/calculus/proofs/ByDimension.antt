@@ -1,14 +1,13 @@
 -- The shadow integral and the affine map in each dimension are those that the laws are proved for
-use Rattle.std.proofs.Common.{◌≡◌, ℕ, zero, suc, Bool, true, false, refl, sym, ◌∙◌, ap, ap₂, List, [], ◌∷◌, pos}
+use Rattle.std.proofs.Common.{◌≡◌, ℕ, zero, suc, Bool, true, false, refl, ◌∙◌, ap, ap₂, [], ◌∷◌, pos}
 use Rattle.algebra.specs.Solver.{at, num, ◌⊕◌, ◌⊖◌, minus as opposite}
 use Rattle.algebra.specs.Sound as Solve
-use Rattle.algebra.specs.Fraction.{Fraction, fractions, zero_fraction, one_fraction, is_zero_fraction}
+use Rattle.algebra.specs.Fraction.{Fraction, fractions, one_fraction, is_zero_fraction}
 use Rattle.calculus.specs.Point.{Point}
-use Rattle.calculus.specs.OverRing as G
 use Rattle.calculus.specs.Rational.{rationals}
-use Rattle.calculus.specs.Polynomial.{Polynomial, nil, one, plus, times, negative, minus, constant, coordinate, antiderivative, composed, instead, polynomials, plus-nil}
-use Rattle.calculus.specs.Simplex.{Simplex, volume, volume_in, barycentric, reference, affine, image, edges, origin, first_unit, second_unit, third_unit}
-use Rattle.calculus.specs.Integral.{signed, shadow, shadow_point, weighted, height, lowered, over_shadow, facet_term, shadow_integral}
+use Rattle.calculus.specs.Polynomial.{Polynomial, nil, plus, times, negative, minus, constant, coordinate, antiderivative, composed, instead, polynomials, plus-nil}
+use Rattle.calculus.specs.Simplex.{Simplex, volume, barycentric}
+use Rattle.calculus.specs.Integral.{shadow_point, height, lowered, over_shadow, shadow_integral}
 use Rattle.calculus.proofs.WrittenOut as W
 use Rattle.calculus.proofs.PolynomialLaws.{composed-same}
 

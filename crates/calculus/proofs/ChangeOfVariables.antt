@@ -1,12 +1,12 @@
 -- The shadow integral over a simplex is its volume factor times that over the reference cell, of the polynomial after the affine map
-use Rattle.std.proofs.Common.{◌≡◌, ℕ, zero, suc, Bool, true, false, refl, sym, ◌∙◌, ap, ap₂, List, [], ◌∷◌}
+use Rattle.std.proofs.Common.{◌≡◌, ℕ, zero, suc, Bool, true, false, refl, sym, ◌∙◌, ap, [], ◌∷◌}
 use Rattle.algebra.specs.RingLaws as L
-use Rattle.algebra.specs.Fraction.{Fraction, fractions, zero_fraction, one_fraction, add, is_below_zero, absolute, when, negative as minus_fraction}
+use Rattle.algebra.specs.Fraction.{Fraction, fractions, zero_fraction, one_fraction, add, is_below_zero, when, negative as minus_fraction}
 use Rattle.calculus.specs.OverRing as G
 use Rattle.calculus.specs.Point.{Point}
 use Rattle.calculus.specs.Rational.{rationals}
 use Rattle.calculus.specs.Polynomial.{Polynomial, plus, times, negative, constant, coordinate, composed, polynomials, nil, plus-nil}
-use Rattle.calculus.specs.Simplex.{Simplex, IsCell, dimension, volume, reference, affine, edges, origin, first_unit, second_unit, third_unit}
+use Rattle.calculus.specs.Simplex.{Simplex, IsCell, dimension, volume, reference, affine, origin, first_unit, second_unit, third_unit}
 use Rattle.calculus.specs.Integral.{shadow_integral, oriented, cell_integral, pulled_back_integral}
 use Rattle.calculus.proofs.WrittenOut as W
 use Rattle.calculus.proofs.IntervalLaw as I

@@ -15,17 +15,17 @@ use Rattle.calculus.proofs.TriangleLaw as T
 use Rattle.calculus.proofs.TetrahedronLaw as V
 
 module _ {R : Type 0} (K : Ring R) (Q : Field K) where
-  abbrev A : Ring (Polynomial K)
+  abbrev pub A : Ring (Polynomial K)
   A = ring K
 
   abbrev d : ℕ → Polynomial K → Polynomial K
   d i p = derivative K i p
 
-  abbrev power : Polynomial K → ℕ → Polynomial K
+  abbrev pub power : Polynomial K → ℕ → Polynomial K
   power p n = raised K A p n
 
   -- a whole number in the polynomials
-  abbrev # : ℕ → Polynomial K
+  abbrev pub # : ℕ → Polynomial K
   # n = natural A n
 
   -- the derivative of a power
@@ -79,13 +79,13 @@ module _ {R : Type 0} (K : Ring R) (Q : Field K) where
       ∙ I.interval-scaled K Q K.zero K.one (natural K n) p
       ∙ ap (λ c. A.mul c (T.unit_integral K Q p)) (C.constant-natural K n)
 
-  abbrev X : Polynomial K
+  abbrev pub X : Polynomial K
   X = coordinate K 0
 
-  abbrev U : Polynomial K
+  abbrev pub U : Polynomial K
   U = A.add A.one (A.neg X)
 
-  abbrev beta : ℕ → ℕ → Polynomial K
+  abbrev pub beta : ℕ → ℕ → Polynomial K
   beta a b = T.unit_integral K Q (A.mul (power U a) (power X b))
 
   slope_of_X : d 0 X ≡ A.one
@@ -165,7 +165,7 @@ module _ {R : Type 0} (K : Ring R) (Q : Field K) where
       turned x p y q = omega arith
 
   -- ---- the reference triangle
-  abbrev Y : Polynomial K
+  abbrev pub Y : Polynomial K
   Y = coordinate K 1
 
   reference_whole : (n : ℕ) (p : Polynomial K) → T.reference K Q (A.mul (# n) p) ≡ A.mul (# n) (T.reference K Q p)
@@ -205,14 +205,14 @@ module _ {R : Type 0} (K : Ring R) (Q : Field K) where
       turned p y q = omega arith
 
   -- ---- the reference tetrahedron
-  abbrev Z : Polynomial K
+  abbrev pub Z : Polynomial K
   Z = coordinate K 2
 
-  abbrev W : Polynomial K
+  abbrev pub W : Polynomial K
   W = A.add A.one (A.neg (A.add X Y))
 
   -- the integral over the reference triangle of (1 - x - y)^a x^b y^c
-  abbrev share : ℕ → ℕ → ℕ → Polynomial K
+  abbrev pub share : ℕ → ℕ → ℕ → Polynomial K
   share a b c = T.reference K Q (A.mul (power W a) (A.mul (power X b) (power Y c)))
 
   moved_W : (s : ℕ → Polynomial K) → replaced K s W ≡ A.add A.one (A.neg (A.add (s 0) (s 1)))
@@ -265,7 +265,8 @@ module _ {R : Type 0} (K : Ring R) (Q : Field K) where
       X_gone : replaced K (T.segment K Q (T.o K Q) (T.e₂ K Q)) X ≡ A.zero
       X_gone = C.replaced-coordinate K (T.segment K Q (T.o K Q) (T.e₂ K Q)) 0 ∙ T.flat K Q K.zero ∙ I.constant-zero K Q
 
-  share_is : (a b c : ℕ) → A.mul (# (factorial (a + (b + suc (suc c))))) (share a b c) ≡ # (factorial a * (factorial b * factorial c))
+  -- (a + b + c + 2)! times the integral of (1 - x - y)^a x^b y^c over the reference triangle
+  pub share_is : (a b c : ℕ) → A.mul (# (factorial (a + (b + suc (suc c))))) (share a b c) ≡ # (factorial a * (factorial b * factorial c))
   share_is zero b c =
       ap₂ (λ n p. A.mul (# (factorial n)) (T.reference K Q p)) (M.zero-add (b + suc (suc c))) (L.one-mul A _)
       ∙ triangle_factorials b c ∙ ap # (sym (M.one-mul (factorial b * factorial c)))

@@ -7,9 +7,15 @@ pub mod TetrahedronLaw
 pub mod Coefficients
 pub mod Factorials
 pub mod ReadingLaws
-pub mod Nodality
+pub mod FallingProducts
 pub mod PolynomialLaws
 pub mod ByDimension
 pub mod ChangeOfVariables
 pub mod Barycentric
 pub mod LocalFunctions
+pub mod ReferenceIntegrals
+pub mod Linear
+pub mod MassShare
+pub mod Nodes
+pub mod PulledBackDerivative
+pub mod Monomials

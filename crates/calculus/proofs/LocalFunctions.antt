@@ -1,16 +1,16 @@
 -- Local functions: after the affine map they are those of the reference cell, and the linear ones are the barycentric coordinates
-use Rattle.std.proofs.Common.{◌≡◌, ℕ, zero, suc, ◌+◌, ◌*◌, false, refl, sym, ◌∙◌, ap, ap₂, List, [], ◌∷◌, pos, arith}
+use Rattle.std.proofs.Common.{◌≡◌, ℕ, zero, suc, ◌+◌, false, refl, sym, ◌∙◌, ap, ap₂, List, [], ◌∷◌, pos, arith}
 use Rattle.algebra.specs.Ring.{natural}
 use Rattle.algebra.specs.RingLaws as L
 use Rattle.algebra.specs.Solver.{at, num, ◌⊕◌, ◌⊗◌, ◌⊖◌, unity}
 use Rattle.algebra.specs.Sound as Solve
 use Rattle.algebra.specs.Fraction.{Fraction, fractions, zero_fraction, one_fraction, add, mul, add_zero, negative as minus_fraction, inverse, is_zero_fraction}
-use Rattle.calculus.specs.Polynomial.{Polynomial, nil, one, plus, times, negative, minus, constant, coordinate, composed, whole, polynomials, times-one, plus-nil}
+use Rattle.calculus.specs.Polynomial.{Polynomial, nil, one, plus, times, negative, minus, constant, coordinate, composed, whole, polynomials, times-one}
 use Rattle.calculus.specs.Simplex.{Simplex, IsCell, dimension, volume, barycentric, reference, affine, origin, first_unit, second_unit, third_unit}
 use Rattle.calculus.specs.Point.{Point}
-use Rattle.calculus.specs.LocalFunction.{factorial, degree_of, falling, vertex_factor, vertex_factors, local_function}
-use Rattle.calculus.proofs.PolynomialLaws.{constant-one, constant-zero, constant-add, constant-negative, composed-plus, composed-times, composed-negative, composed-constant, composed-coordinate, composed-one, composed-same, polynomial_ind}
-use Rattle.calculus.proofs.Barycentric.{basis_coordinate, basis_coordinate_of, on_line, on_plane, in_space, affine_line, affine_plane, affine_space, point, X, Y, Z}
+use Rattle.calculus.specs.LocalFunction.{degree_of, falling, vertex_factor, vertex_factors, local_function}
+use Rattle.calculus.proofs.PolynomialLaws.{constant-one, constant-zero, composed-plus, composed-times, composed-negative, composed-constant, composed-coordinate, composed-one, composed-same, polynomial_ind}
+use Rattle.calculus.proofs.Barycentric.{basis_coordinate, basis_coordinate_of, on_plane, affine_line, affine_plane, affine_space, X, Y, Z}
 
 -- ---- replacing the variables in a local function
 composed-falling : (s : ℕ → Polynomial) (x : Polynomial) (a : ℕ) → composed s (falling x a) ≡ falling (composed s x) a

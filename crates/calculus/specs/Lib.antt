@@ -9,3 +9,5 @@ pub mod Point
 pub mod Simplex
 pub mod Integral
 pub mod LocalFunction
+pub mod Mass
+pub mod Jacobian

@@ -1,9 +1,9 @@
 -- The local functions of a Lagrange element, by Silvester's formula
 use Rattle.std.specs.Prelude.{ℕ, zero, suc, ◌+◌, ◌*◌, List, [], ◌∷◌}
 use Rattle.algebra.specs.Ring.{natural}
-use Rattle.algebra.specs.Fraction.{fractions, inverse}
-use Rattle.calculus.specs.Polynomial.{Polynomial, one, times, minus, constant, whole}
-use Rattle.calculus.specs.Simplex.{Simplex, barycentric}
+use Rattle.algebra.specs.Fraction.{Fraction, fractions, mul, inverse}
+use Rattle.calculus.specs.Polynomial.{Polynomial, one, times, minus, constant, value, whole}
+use Rattle.calculus.specs.Simplex.{Simplex, barycentric, affine}
 
 abbrev pub factorial : ℕ → ℕ
 factorial zero = 1
@@ -31,3 +31,16 @@ vertex_factors q v j (a ∷ weights) = times (vertex_factor q (barycentric v j) 
 -- the local function of a node on a cell; for degree 0 it is 1
 unfoldable pub local_function : Simplex → List ℕ → Polynomial
 local_function v weights = vertex_factors (degree_of weights) v 0 weights
+
+-- coordinate i of a node on the reference cell: its weight at vertex i + 1 over its degree
+abbrev pub weight_at : List ℕ → ℕ → ℕ
+weight_at [] i = 0
+weight_at (a ∷ weights) zero = a
+weight_at (a ∷ weights) (suc i) = weight_at weights i
+
+abbrev pub node_point : List ℕ → ℕ → Fraction
+node_point weights i = mul (natural fractions (weight_at weights (suc i))) (inverse (natural fractions (degree_of weights)))
+
+-- the node's point in a cell: the image of that on the reference cell
+abbrev pub node_in : Simplex → List ℕ → ℕ → Fraction
+node_in v weights i = value (node_point weights) (affine v i)

@@ -7,3 +7,4 @@ pub mod QuotientLaws
 pub mod Equality
 pub mod Tens
 pub mod TextLaws
+pub mod DigitLaws

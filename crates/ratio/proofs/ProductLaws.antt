@@ -7,6 +7,7 @@ use Rattle.algebra.specs.Gcd.{gcd}
 use Rattle.ratio.specs.Value.{pair_of, fraction_of}
 use Rattle.ratio.specs.Parts.{Fits}
 use Rattle.algebra.specs.Sign.{signed, signs_differ}
+use Rattle.algebra.proofs.Signs.{signed-mul}
 use Rattle.ratio.specs.declared.reduced.Ratio.{Ratio}
 use Rattle.algebra.specs.Integers.{neg-mul, integers}
 use Rattle.algebra.specs.Solver.{at, ◌⊗◌, minus}
@@ -106,10 +107,6 @@ product_sign (pos a) (pos b) = refl
 product_sign (pos a) (negsuc b) = refl
 product_sign (negsuc a) (pos b) = refl
 product_sign (negsuc a) (negsuc b) = refl
-
-pub signed-mul : (s : Bool) (k m : ℕ) → signed s k *ℤ pos m ≡ signed s (k * m)
-signed-mul true k m = neg-mul (pos k) (pos m)
-signed-mul false k m = refl
 
 -- what was built has the product's value
 pub built_product : (r x y : Ratio) (s : Bool) (top bottom : ℕ) → s ≡ signs_differ x.n y.n → (r.n ≡ signed s top) × (r.d ≡ bottom)

@@ -5,20 +5,12 @@ use mathlib.Core.Quot.{mk}
 use Rattle.algebra.specs.Fraction.{Pair, Fraction, add, mul, below_nought, pair_product, pair_sum}
 use Rattle.algebra.specs.Gcd.{gcd}
 use Rattle.algebra.specs.Sign.{signed}
+use Rattle.algebra.proofs.Signs.{size_of_signed, signed_size}
 use Rattle.ratio.specs.declared.reduced.Ratio.{Ratio}
 use Rattle.ratio.specs.Value.{fraction_of, pair_of, valued}
 use Rattle.ratio.specs.Parts.{Fits, SumFits}
 use Rattle.algebra.specs.LowestTerms.{top, bottom}
 use Rattle.algebra.specs.Steps.{below_limit, fits, sum_fits, sum_fits_at}
-
-pub size_of_signed : (s : Bool) (n : ℕ) → unsigned_abs (signed s n) ≡ n
-size_of_signed true zero = refl
-size_of_signed true (suc n) = refl
-size_of_signed false n = refl
-
-pub signed_size : (z : ℤ) → signed (below_nought z) (unsigned_abs z) ≡ z
-signed_size (pos n) = refl
-signed_size (negsuc n) = refl
 
 by_one : (n g : ℕ) → g ≡ 1 → n / g ≡ n
 by_one n g e = ap (λ k. n / k) e ∙ N.div-one n

@@ -17,7 +17,8 @@ use Rattle.algebra.specs.Sign.{signed, is_negative}
 use Rattle.std.proofs.lemmas.Nat.Gcd.{dvd_trans}
 use Rattle.algebra.specs.GcdLaws.{IsCoprime, coprime_from_gcd, gcd_from_coprime, gcd_of_multiples, coprime_parts, coprime-mul, divides_other}
 use Rattle.algebra.specs.GcdLaws.{gcd_positive_left, gcd_positive_right, part_left, part_right, positive_part}
-use Rattle.ratio.proofs.ProductLaws.{quotient, signed-mul, plain_integer}
+use Rattle.ratio.proofs.ProductLaws.{quotient, plain_integer}
+use Rattle.algebra.proofs.Signs.{signed-mul}
 
 -- the size of a difference of naturals
 difference_sizes : (a b : ℕ) → (a ≡ unsigned_abs (sub_ℕ a b) + b) ⊎ (b ≡ unsigned_abs (sub_ℕ a b) + a)

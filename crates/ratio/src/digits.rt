@@ -1,8 +1,11 @@
 // Strings of decimal digits and what they stand for.
 
-ghost use Rattle.std.specs.Option.{SomeIff};
+ghost use Rattle.std.specs.Prelude.{◌≡◌, ℕ, ◌+◌, ◌*◌, ◌++◌, ◌<◌, ◌≤◌, ◌^◌, length, replicate};
 ghost use Rattle.std.specs.Char.{digit_value};
-ghost use Rattle.std.specs.Prelude.{◌≡◌, ◌++◌, ◌<◌, ◌≤◌, ◌^◌, length, IfSome};
+ghost use Rattle.std.specs.Option.{SomeIff};
+ghost use Rattle.std.specs.Str.Parse.{AllDigits, digits_value_after};
+ghost use Rattle.ratio.specs.NumberText.{without_end_zeros as trimmed};
+ghost use Rattle.ratio.specs.Digits.{BeginsOtherwise};
 
 use crate::parts::LIMIT;
 
@@ -18,7 +21,9 @@ pub fn digit(byte: u8) -> Option<u16>
 
 /// The digits that the text begins with, and the rest.
 pub fn split_digits(text: &[u8]) -> (&[u8], &[u8])
-    ensures { result.0.now ++ result.1.now ≡ text.now }
+    ensures whole { result.0.now ++ result.1.now ≡ text.now }
+    ensures digits { AllDigits 10 result.0.now }
+    ensures rest { BeginsOtherwise result.1.now }
 {
     let mut end = 0;
     while end < text.len() && text[end].is_ascii_digit() {
@@ -29,7 +34,9 @@ pub fn split_digits(text: &[u8]) -> (&[u8], &[u8])
 
 /// The digits without the zeros at their end.
 pub fn without_end_zeros(digits: &[u8]) -> &[u8]
-    ensures { length result.now ≤ length digits.now }
+    ensures kept { result.now ≡ trimmed digits.now }
+    ensures dropped { (n : ℕ) → length digits.now ≡ length result.now + n → digits.now ≡ result.now ++ replicate n 48 }
+    ensures short { length result.now ≤ length digits.now }
 {
     let mut end = digits.len();
     while end > 0 && digits[end - 1] == b'0' {
@@ -38,22 +45,24 @@ pub fn without_end_zeros(digits: &[u8]) -> &[u8]
     &digits[..end]
 }
 
-/// The number that the digits write behind those of `start`, where it is below 2^127.
+// The number with one more digit behind it, where that is below 2^127.
+fn followed(number: u128, digit: u16) -> Option<u128>
+    requires number { number < 2 ^ 127 }
+    requires digit { digit < 10 }
+    ensures { SomeIff result (number * 10 + digit < 2 ^ 127) (number * 10 + digit) }
+{
+    let longer = number.checked_mul(10)?.checked_add(digit as u128)?;
+    if longer < LIMIT { Some(longer) } else { None }
+}
+
+/// The number that the digits write behind those of `start`, or `None` exactly where a byte is no digit or the number is above 2^127 - 1.
 pub fn appended(start: u128, digits: &[u8]) -> Option<u128>
     requires { start < 2 ^ 127 }
-    ensures { IfSome result (λ n. n < 2 ^ 127) }
+    ensures { SomeIff result (AllDigits 10 digits.now × (digits_value_after 10 start digits.now < 2 ^ 127)) (digits_value_after 10 start digits.now) }
 {
     let mut number = start;
-    for digit in digits {
-        if !digit.is_ascii_digit() {
-            return None;
-        }
-        number = number
-            .checked_mul(10)?
-            .checked_add((*digit - b'0') as u128)?;
-        if number >= LIMIT {
-            return None;
-        }
+    for byte in digits {
+        number = followed(number, digit(*byte)?)?;
     }
     Some(number)
 }

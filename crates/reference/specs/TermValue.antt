@@ -1,0 +1,12 @@
+-- The polynomial that a list of terms is
+use Rattle.std.specs.Prelude.{ℕ, List, [], ◌∷◌}
+use Rattle.ratio.specs.Value.{fraction_of}
+use Rattle.calculus.specs.Polynomial.{Polynomial, nil, plus, monomial}
+use Rattle.reference.specs.declared.term.Term.{Term}
+
+abbrev pub term_of : Term → Polynomial
+term_of t = monomial (fraction_of t.coefficient) (t.x ∷ t.y ∷ t.z ∷ [])
+
+unfoldable pub sum_of : List Term → Polynomial
+sum_of [] = nil
+sum_of (t ∷ ts) = plus (term_of t) (sum_of ts)

@@ -1,0 +1,5 @@
+use Rattle.spaces.proofs.SpaceLaws.{described_tensor_tree}
+use Rattle.spaces.proofs.element.Element.tensor.Goals as goal
+
+pub invariant_of-result : goal.invariant_of-result
+invariant_of-result c = described_tensor_tree _ _ _ _ _ _ _ _ _ c.in_ok-part.ensures c.part.view_is c.part.invariant c.in_ok-flat.ensures

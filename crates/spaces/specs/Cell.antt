@@ -1,0 +1,16 @@
+-- The dimension and the name of a cell
+use Rattle.std.specs.Prelude.{ℕ, List, codes}
+use Rattle.spaces.specs.declared.cell.Cell.{Cell}
+use Rattle.spaces.specs.declared.cell.Cell.TheVariants.{Interval, Triangle, Tetrahedron}
+
+-- how many coordinates a point has
+abbrev pub dimension : Cell → ℕ
+dimension Interval = 1
+dimension Triangle = 2
+dimension Tetrahedron = 3
+
+-- the bytes of the name
+abbrev pub cell_name : Cell → List ℕ
+cell_name Interval = codes "interval"
+cell_name Triangle = codes "triangle"
+cell_name Tetrahedron = codes "tetrahedron"

@@ -1,0 +1,9 @@
+pub mod Cell
+pub mod Family
+pub mod Scalar
+pub mod Space
+pub mod Reading
+pub mod Flat
+pub mod Refusal
+pub mod Sound
+pub mod Single
