@@ -1,0 +1,9 @@
+pub mod Places
+pub mod AddsLaws
+pub mod Thirds
+pub mod Valued
+pub mod MassLaws
+pub mod RowsLaws
+pub mod CellLaws
+pub mod SumsLaws
+pub mod MatrixLaws

@@ -1,0 +1,14 @@
+//! From the cells of a mesh to the nonzero entries of a form's matrix: each cell's values are
+//! computed, and the values of an entry are added up in the order of the cells.
+#![tactic(auto)]
+
+mod mass;
+mod refusal;
+mod rows;
+mod sums;
+mod triple;
+
+pub use mass::assemble_mass;
+pub use refusal::RunRefusal;
+pub use rows::Rows;
+pub use triple::Triple;

@@ -1,0 +1,48 @@
+//! Why there is no matrix.
+ghost use Rattle.std.specs.Prelude.{◌≡◌};
+ghost use Rattle.assembly.specs.declared.refusal.RunRefusal.TheVariants.{Memory};
+
+use std::alloc::{AllocError, AllocFailed};
+use std::error::Error;
+use std::fmt;
+
+/// Why a form could not be assembled. Cells, rows and columns count from 0.
+#[derive(Clone, Copy, Debug, PartialEq, Eq)]
+pub enum RunRefusal {
+    /// The cell has no volume.
+    Zero { cell: u32 },
+    /// A number in the values of the cell passes 127 bits.
+    CellPassed { cell: u32 },
+    /// A number in the sum of the entry passes 127 bits.
+    SumPassed { row: u32, col: u32 },
+    Memory,
+}
+
+impl fmt::Display for RunRefusal {
+    fn fmt<W: fmt::Write>(&self, f: &mut fmt::Formatter<W>) -> fmt::Result {
+        match self {
+            RunRefusal::Zero { cell } => write!(f, "cell {cell} has no volume"),
+            RunRefusal::CellPassed { cell } => write!(f, "a value of cell {cell} passes"),
+            RunRefusal::SumPassed { row, col } => write!(f, "the sum of entry {row} {col} passes"),
+            RunRefusal::Memory => f.write_str("out of memory"),
+        }
+    }
+}
+
+impl Error for RunRefusal {}
+
+impl From<AllocError> for RunRefusal {
+    ghost from_gives = { λ _ e. e ≡ Memory };
+
+    fn from(_error: AllocError) -> RunRefusal {
+        RunRefusal::Memory
+    }
+}
+
+impl<T: Drop> From<AllocFailed<T>> for RunRefusal {
+    ghost from_gives = { λ _ e. e ≡ Memory };
+
+    fn from(_error: AllocFailed<T>) -> RunRefusal {
+        RunRefusal::Memory
+    }
+}
