@@ -11,6 +11,9 @@ mod outcome;
 mod output;
 mod program;
 
+#[cfg(test)]
+mod tests;
+
 use ends::real::{RealFiles, StdSink};
 use program::program;
 use std::alloc::AllocError;
