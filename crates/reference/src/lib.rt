@@ -5,8 +5,10 @@
 #![tactic(auto)]
 
 mod fault;
+mod number;
+mod poly;
 mod term;
-mod terms;
 
 pub use fault::Fault;
+pub use poly::Poly;
 pub use term::{Axis, Term};

@@ -1,2 +1,3 @@
 pub mod White
 pub mod Next
+pub mod Ahead

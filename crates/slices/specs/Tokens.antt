@@ -1,5 +1,5 @@
 -- The tokens of a text
-use Rattle.std.specs.Prelude.{◌≡◌, ℕ, ◌+◌, List, [], ◌∷◌, take, drop, Option, Some, None, Result, Ok, Err}
+use Rattle.std.specs.Prelude.{◌≡◌, ℕ, zero, suc, ◌+◌, List, [], ◌∷◌, length, take, drop, Option, Some, None, Result, Ok, Err}
 use Rattle.slices.specs.White.{Rest, after_white}
 use Rattle.slices.specs.CTable.{c_token}
 use Rattle.slices.specs.declared.toks.TokKind.{TokKind}
@@ -54,3 +54,19 @@ abbrev pub IsStep : Reader → Option (Result Tok LexAt) → Reader → Type 0
 IsStep old None new = (next_of (rest_of old) ≡ finished) × (next_of (rest_of new) ≡ finished)
 IsStep old (Some (Ok t)) new = next_of (rest_of old) ≡ token (token_of t) (rest_of new)
 IsStep old (Some (Err e)) new = (next_of (rest_of old) ≡ no_token e.from e.line) × (next_of (rest_of new) ≡ no_token e.from e.line)
+
+-- ---- all tokens
+
+abbrev pub ahead_by : (Rest → List Token × Option ℕ) → Next → List Token × Option ℕ
+ahead_by more finished = ([], None)
+ahead_by more (no_token from line) = ([], Some line)
+ahead_by more (token t r) = (t ∷ (more r).0, (more r).1)
+
+-- at most so many tokens
+unfoldable pub ahead_within : ℕ → Rest → List Token × Option ℕ
+ahead_within zero r = ([], None)
+ahead_within (suc n) r = ahead_by (ahead_within n) (next_of r)
+
+-- the tokens from here on, and the line where no token starts, if there is one
+unfoldable pub tokens_from : Rest → List Token × Option ℕ
+tokens_from r = ahead_within (suc (length r.bytes)) r

@@ -3,7 +3,9 @@
 //! all else is read in loops.
 #![tactic(auto)]
 
+mod statements;
 mod tokens;
 mod values;
 
+pub use statements::read_statements;
 pub use tokens::Fault;
