@@ -1,0 +1,148 @@
+//! The program over any files and sinks.
+ghost use Rattle.std.specs.Prelude.{◌≡◌, ◌≢◌, ◌↔◌, ℕ, List, OnOk, IfOk, IfErr};
+ghost use Rattle.ends.specs.Count.{Rises};
+ghost use Rattle.ends.specs.Told.{appended, TakesPrefix};
+ghost use Rattle.ffc.specs.Words.{HaveNoShape, texts};
+ghost use Rattle.ffc.specs.Lines.{Says};
+ghost use Rattle.ffc.specs.Answer.{Wrote, ReadFaultCounts, FormRefused, MeshRefused, AssembleRefused};
+
+ghost use Rattle.spaces.specs.declared.cell.Cell.TheVariants.{Interval};
+
+use crate::command::{Command, read_command};
+use crate::form_file::parting_line;
+use crate::lines::put_outcome;
+use crate::loading::{FORM_LIMIT, MESH_LIMIT, load};
+use crate::outcome::{FormKind, FormRefusal, Outcome, Spot};
+use crate::output::push_matrix;
+use assembly::{Rows, RunRefusal, Triple, assemble_mass};
+use ends::files::Files;
+use ends::sink::Sink;
+use mesh_in::{Mesh, MeshKind, MeshRefusal, read_mesh};
+use spaces::Cell;
+use std::alloc::Global;
+
+// The name of the form.
+const FORM_NAME: &str = "a";
+
+// Loads the form, which is the one that can be compiled.
+fn load_form<F: Files>(alloc: Global, files: &mut F, name: &str) -> Result<(), Outcome>
+    ensures no_fault { OnOk result (F.faults files.new ≡ F.faults files.old) }
+    ensures err { IfErr result (FormRefused name.now (F.faults files.old) (F.faults files.new) (F.last_failed files.new)) }
+{
+    let text = load(alloc, files, name, FORM_LIMIT, 1)?;
+    if text.len() > FORM_LIMIT as usize {
+        let kind = FormKind::TooLong;
+        return Err(Outcome::Form(FormRefusal { kind, line: 0 }));
+    }
+    match parting_line(text.as_slice()) {
+        None => Ok(()),
+        Some(line) => {
+            let kind = FormKind::NotYet;
+            Err(Outcome::Form(FormRefusal { kind, line }))
+        }
+    }
+}
+
+// The number of the first line that has a word, which is the header of a mesh.
+fn first_line_with_words(text: &[u8]) -> u32 {
+    let mut line: u32 = 1;
+    let mut in_comment = false;
+    for byte in text {
+        match byte {
+            b'\n' => {
+                line = line.saturating_add(1);
+                in_comment = false;
+            }
+            b'#' => in_comment = true,
+            b' ' | b'\t' | b'\r' => {}
+            _ if in_comment => {}
+            _ => break,
+        }
+    }
+    line
+}
+
+// Loads a mesh of intervals.
+fn load_mesh<F: Files>(alloc: Global, files: &mut F, name: &str) -> Result<Mesh, Outcome>
+    ensures kind { IfOk result (λ mesh. mesh.kind ≡ Interval) }
+    ensures err { IfErr result (MeshRefused name.now (F.faults files.old) (F.faults files.new) (F.last_failed files.new)) }
+{
+    let text = load(alloc, files, name, MESH_LIMIT, 2)?;
+    let mesh = match read_mesh(alloc, text.as_slice()) {
+        Ok(mesh) => mesh,
+        Err(refusal) => return Err(Outcome::from(refusal)),
+    };
+    match mesh.kind() {
+        Cell::Interval => Ok(mesh),
+        _ => Err(Outcome::Mesh(MeshRefusal {
+            kind: MeshKind::WrongCell,
+            line: first_line_with_words(text.as_slice()),
+            cell: 0,
+        })),
+    }
+}
+
+// The text of the matrix of the form on the mesh.
+fn assemble<F: Files>(
+    alloc: Global,
+    files: &mut F,
+    form: &str,
+    mesh: &str,
+) -> Result<Vec<u8>, Outcome>
+    ensures { IfErr result (AssembleRefused form.now mesh.now (F.faults files.old) (F.faults files.new) (F.last_failed files.new)) }
+{
+    load_form(alloc, files, form)?;
+    let mesh = load_mesh(alloc, files, mesh)?;
+    let triples = assemble_mass(alloc, &mesh)?;
+    let rows = Rows::new(alloc, &mesh)?.count;
+    let mut text = Vec::new(alloc);
+    push_matrix(&mut text, FORM_NAME, rows, rows, triples.as_slice())?;
+    Ok(text)
+}
+
+// Does what the words ask, and puts the answer.
+fn answer<F: Files, O: Sink>(
+    alloc: Global,
+    words: &[String],
+    files: &mut F,
+    out: &mut O,
+) -> Outcome
+    ensures usage { (result ≡ Outcome.Usage) ↔ HaveNoShape (texts words.now) }
+    ensures read_fault { ReadFaultCounts result (texts words.now)
+        (F.faults files.old) (F.faults files.new) (F.last_failed files.new) }
+    ensures write_fault { result ≡ Outcome.WriteFault → Rises (O.faults out.old) (O.faults out.new) }
+    ensures wrote { Wrote result (O.written out.old) (O.written out.new) (λ _. Unit {0}) }
+{
+    let Some(Command::Assemble { form, mesh }) = read_command(words) else {
+        return Outcome::Usage;
+    };
+    let text = match assemble(alloc, files, form, mesh) {
+        Ok(text) => text,
+        Err(outcome) => return outcome,
+    };
+    match out.put(text.as_slice()) {
+        Ok(()) => Outcome::Done,
+        Err(_) => Outcome::WriteFault,
+    }
+}
+
+/// Does what the words ask: the answer goes to `out` once it is whole, and the line of any other
+/// outcome than `Done` to `err`.
+pub fn program<F: Files, O: Sink, E: Sink>(
+    alloc: Global,
+    words: &[String],
+    files: &mut F,
+    out: &mut O,
+    err: &mut E,
+) -> Outcome
+    ensures usage { (result ≡ Outcome.Usage) ↔ HaveNoShape (texts words.now) }
+    ensures read_fault { ReadFaultCounts result (texts words.now)
+        (F.faults files.old) (F.faults files.new) (F.last_failed files.new) }
+    ensures write_fault { result ≡ Outcome.WriteFault → Rises (O.faults out.old) (O.faults out.new) }
+    ensures wrote { Wrote result (O.written out.old) (O.written out.new) (λ _. Unit {0}) }
+    ensures line { Says result (E.written err.old) (E.written err.new) (E.faults err.old) (E.faults err.new) }
+{
+    let outcome = answer(alloc, words, files, out);
+    put_outcome(err, &outcome);
+    outcome
+}

@@ -1,0 +1,119 @@
+//! Runs of the program over files and sinks in memory.
+use crate::outcome::Outcome;
+use crate::program::program;
+use ends::mem_files::{MemFile, MemFiles};
+use ends::mem_sink::MemSink;
+use std::alloc::{AllocError, Global};
+use std::test::Fail;
+
+const MASS: &str = "V = FiniteElement(\"Lagrange\", interval, 1)
+u = TrialFunction(V)
+v = TestFunction(V)
+a = u*v*dx
+";
+
+const TWO: &str = "mesh 1 interval 2 1\n0\n2\n0 1\n";
+
+const MATRIX: &str = "form a rank 2 rows 2 columns 2\n0 0 2/3\n0 1 1/3\n1 0 1/3\n1 1 2/3\n";
+
+// A call of the program: its words, the files `form` and `mesh`, and the first put that fails.
+#[derive(Clone, Copy)]
+struct Call<'a> {
+    words: &'a str,
+    form: &'a str,
+    mesh: &'a str,
+    fail: Option<(u64, u32)>,
+}
+
+// What the call left: the status, and the bytes of out and err.
+#[derive(Drop)]
+struct Left {
+    status: u8,
+    out: MemSink,
+    err: MemSink,
+}
+
+fn file(alloc: Global, name: &str, bytes: &str) -> Result<MemFile, AllocError> {
+    Ok(MemFile {
+        name: String::from_str(alloc, name)?,
+        bytes: Vec::from_slice(alloc, bytes.as_bytes())?,
+    })
+}
+
+fn words_of(alloc: Global, line: &str) -> Result<Vec<String>, AllocError> {
+    let mut words = Vec::new(alloc);
+    for word in line.split_whitespace() {
+        words.push(String::from_str(alloc, word)?)?;
+    }
+    Ok(words)
+}
+
+fn run(alloc: Global, call: &Call<'_>) -> Result<Left, AllocError> {
+    let mut list = Vec::new(alloc);
+    list.push(file(alloc, "form", call.form)?)?;
+    list.push(file(alloc, "mesh", call.mesh)?)?;
+    let mut files = MemFiles::new(alloc, list, Vec::new(alloc));
+    let mut fail = Vec::new(alloc);
+    if let Some(put) = call.fail {
+        fail.push(put)?;
+    }
+    let mut out = MemSink::new(alloc, 9999, fail)?;
+    let mut err = MemSink::new(alloc, 9999, Vec::new(alloc))?;
+    let words = words_of(alloc, call.words)?;
+    let status = program(alloc, words.as_slice(), &mut files, &mut out, &mut err).status();
+    Ok(Left { status, out, err })
+}
+
+#[test]
+fn ends_as_the_worked_rows_say(rt: HostRuntime) -> Result<(), Fail> {
+    let words = "assemble form a mesh -";
+    let table = [
+        (words, MASS, TWO, 0, MATRIX, ""),
+        ("", MASS, TWO, 2, "", "usage\n"),
+        ("assemble form a", MASS, TWO, 2, "", "usage\n"),
+        ("assemble form b mesh -", MASS, TWO, 2, "", "usage\n"),
+        ("assemble none a mesh -", MASS, TWO, 8, "", "read fault 1\n"),
+        ("assemble form a none -", MASS, TWO, 8, "", "read fault 2\n"),
+        (words, "", TWO, 3, "", "form line 1 refusal 16 NotYet\n"),
+        (
+            words,
+            "V = FiniteElement(\"Lagrange\", interval, 1)\nu = TrialFunction(V)\nv = TestFunction(V)\na = u*u*dx\n",
+            TWO,
+            3,
+            "",
+            "form line 4 refusal 16 NotYet\n",
+        ),
+        (words, MASS, "mesh 1 interval 2 1\n1\n1\n0 1\n", 4, "", "mesh cell 0 refusal 8 Degenerate\n"),
+        (words, MASS, "mesh 1 interval 2 1\n0\n2\n0 2\n", 4, "", "mesh line 4 refusal 5 VertexRange\n"),
+        (words, MASS, "# flat\nmesh 1 triangle 0 0\n", 4, "", "mesh line 2 refusal 7 WrongCell\n"),
+        (words, MASS, "mesh 1 interval 1 0\n7\n", 0, "form a rank 2 rows 0 columns 0\n", ""),
+    ];
+    for (words, form, mesh, status, out, err) in table {
+        let call = Call {
+            words,
+            form,
+            mesh,
+            fail: None,
+        };
+        let left = run(rt.alloc(), &call)?;
+        assert_eq!(rt; left.out.bytes(), out.as_bytes());
+        assert_eq!(rt; left.err.bytes(), err.as_bytes());
+        assert_eq!(rt; left.status, status);
+    }
+    Ok(())
+}
+
+#[test]
+fn a_fault_of_writing_leaves_a_prefix(rt: HostRuntime) -> Result<(), Fail> {
+    let call = Call {
+        words: "assemble form a mesh -",
+        form: MASS,
+        mesh: TWO,
+        fail: Some((1, 10)),
+    };
+    let left = run(rt.alloc(), &call)?;
+    assert_eq!(rt; left.out.bytes(), b"form a ran".as_slice());
+    assert_eq!(rt; left.err.bytes(), b"write fault\n".as_slice());
+    assert_eq!(rt; left.status, 9);
+    Ok(())
+}
