@@ -1,3 +1,4 @@
 pub mod SinkLaws
 pub mod FormLaws
 pub mod WordsLaws
+pub mod FactorLaws

@@ -29,7 +29,7 @@ mesh_outcome r = outcome_of_kind r.kind r
 
 -- a refusal of the run as the outcome
 abbrev pub run_outcome : RunRefusal → Outcome
-run_outcome (run.Zero cell) = Mesh (record { kind = kind.Degenerate; line = 0; cell = cell })
-run_outcome (run.CellPassed cell) = Passed (spot.Cell cell)
+run_outcome (run.Zero cell at) = Mesh (record { kind = kind.Degenerate; line = 0; cell = cell })
+run_outcome (run.CellPassed cell at op left right) = Passed (spot.Cell cell)
 run_outcome (run.SumPassed row col) = Passed (spot.Sum row col)
 run_outcome run.Memory = Memory

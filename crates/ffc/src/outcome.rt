@@ -96,12 +96,12 @@ impl From<RunRefusal> for Outcome {
 
     fn from(refusal: RunRefusal) -> Outcome {
         match refusal {
-            RunRefusal::Zero { cell } => Outcome::Mesh(MeshRefusal {
+            RunRefusal::Zero { cell, .. } => Outcome::Mesh(MeshRefusal {
                 kind: MeshKind::Degenerate,
                 line: 0,
                 cell,
             }),
-            RunRefusal::CellPassed { cell } => Outcome::Passed(Spot::Cell { cell }),
+            RunRefusal::CellPassed { cell, .. } => Outcome::Passed(Spot::Cell { cell }),
             RunRefusal::SumPassed { row, col } => Outcome::Passed(Spot::Sum { row, col }),
             RunRefusal::Memory => Outcome::Memory,
         }

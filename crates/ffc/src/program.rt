@@ -17,12 +17,16 @@ use crate::output::push_matrix;
 use assembly::{Rows, RunRefusal, Triple, assemble_mass};
 use ends::files::Files;
 use ends::sink::Sink;
+use kernel::plan_mass;
 use mesh_in::{Mesh, MeshKind, MeshRefusal, read_mesh};
+use ratio::Ratio;
 use spaces::Cell;
 use std::alloc::Global;
 
-// The name of the form.
+// The name of the form, and that of its function.
 const FORM_NAME: &str = "a";
+
+const FUNCTION_NAME: &[u8] = b"ffc_a";
 
 // Loads the form, which is the one that can be compiled.
 fn load_form<F: Files>(alloc: Global, files: &mut F, name: &str) -> Result<(), Outcome>
@@ -93,7 +97,8 @@ fn assemble<F: Files>(
 {
     load_form(alloc, files, form)?;
     let mesh = load_mesh(alloc, files, mesh)?;
-    let triples = assemble_mass(alloc, &mesh)?;
+    let function = plan_mass(alloc, FUNCTION_NAME, Ratio::one())?;
+    let triples = assemble_mass(alloc, &function, &mesh)?;
     let rows = Rows::new(alloc, &mesh)?.count;
     let mut text = Vec::new(alloc);
     push_matrix(&mut text, FORM_NAME, rows, rows, triples.as_slice())?;
