@@ -82,3 +82,106 @@ impl<'f> Machine<'f> {
         run_function(self.fun, x, w, self.t.as_mut_slice(), a)
     }
 }
+
+#[cfg(test)]
+mod tests {
+    use super::*;
+    use c_unit::{Array, CStmt, Op, Place, Slot};
+    use sqlite_items::Items;
+    use std::test::Fail;
+
+    fn place(array: Array, base: u32, steps: [u32; 4]) -> Place {
+        Place {
+            array,
+            slot: Slot { base, steps },
+        }
+    }
+
+    fn pair(first: (i128, i128), second: (i128, i128)) -> Result<[Ratio; 2], Fail> {
+        let first = Ratio::new(first.0, first.1).ok_or("doesn't fit")?;
+        let second = Ratio::new(second.0, second.1).ok_or("doesn't fit")?;
+        Ok([first, second])
+    }
+
+    // A[i] = table[i] * X[0] * X[1] for both i, and then the reciprocal of A[1].
+    fn products(alloc: Global, table: Items<Ratio>) -> Result<CFun, AllocError>
+        ensures { IfOk result (λ f. f.a ≡ 2) }
+    {
+        let entry = place(Array::A, 0, [1, 0, 0, 0]);
+        let mut inner = Items::new(alloc);
+        inner.push(CStmt::Mul {
+            to: entry,
+            left: entry,
+            right: place(Array::X, 0, [0, 1, 0, 0]),
+        })?;
+        let mut outer = Items::new(alloc);
+        outer.push(CStmt::Load {
+            to: entry,
+            table: 0,
+            at: entry.slot,
+        })?;
+        outer.push(CStmt::For {
+            turns: 2,
+            body: inner,
+        })?;
+        let mut body = Items::new(alloc);
+        body.push(CStmt::For {
+            turns: 2,
+            body: outer,
+        })?;
+        body.push(CStmt::Inv {
+            to: place(Array::T, 0, [0, 0, 0, 0]),
+            arg: place(Array::A, 1, [0, 0, 0, 0]),
+        })?;
+        let mut tables = Items::new(alloc);
+        tables.push(table)?;
+        Ok(CFun {
+            name: Items::new(alloc),
+            x: 2,
+            w: 0,
+            t: 1,
+            a: 2,
+            tables,
+            body,
+        })
+    }
+
+    fn run_products(rt: &HostRuntime, x: (i128, i128)) -> Result<(Ret, [Ratio; 2]), Fail> {
+        let table = Items::from_slice(rt.alloc(), &pair((1, 2), (2, 3))?)?;
+        let fun = products(rt.alloc(), table)?;
+        let mut machine = Machine::new(rt.alloc(), &fun)?;
+        let mut a = [Ratio::one(), Ratio::one()];
+        let end = machine.run(&pair((x.0, 1), (x.1, 1))?, &[], &mut a);
+        Ok((end, a))
+    }
+
+    #[test]
+    fn loops_run_over_a_table(rt: HostRuntime) -> Result<(), Fail> {
+        let (end, a) = run_products(&rt, (4, 3))?;
+        assert!(rt; matches!(end, Ret::Good));
+        assert!(rt; a == pair((6, 1), (8, 1))?);
+        let (end, a) = run_products(&rt, (4, 0))?;
+        assert!(rt; matches!(end, Ret::Zero { at: 4 }));
+        assert!(rt; a == pair((0, 1), (0, 1))?);
+        Ok(())
+    }
+
+    #[test]
+    fn a_step_that_passes_is_named(rt: HostRuntime) -> Result<(), Fail> {
+        let (end, a) = run_products(&rt, (1 << 126, 5))?;
+        let Ret::Passed {
+            at,
+            op,
+            left,
+            right,
+        } = end
+        else {
+            return Err("no product passed".into());
+        };
+        assert_eq!(rt; at, 3);
+        assert!(rt; matches!(op, Op::Mul));
+        assert!(rt; [left, right] == pair((1 << 125, 1), (5, 1))?);
+        assert!(rt; a == pair((1 << 125, 1), (0, 1))?);
+        Ok(())
+    }
+}

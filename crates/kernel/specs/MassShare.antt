@@ -1,12 +1,17 @@
 -- The share of a cell in the form c*u*v*dx on intervals, and what comes of the cell
-use Rattle.std.specs.Prelude.{ℕ, Bool, Option, Some, None, List, [], ◌∷◌, ◌&&◌, if◌then◌else◌}
+use Rattle.std.specs.Prelude.{ℕ, ◌*◌, ◌<◌, ◌^◌, unsigned_abs, Bool, Option, Some, None, List, [], ◌∷◌, ◌&&◌, if◌then◌else◌}
 use Rattle.algebra.specs.Fraction.{Fraction, mul, absolute, is_zero_fraction}
+use Rattle.algebra.specs.LowestTerms.{top, bottom}
 use Rattle.algebra.specs.Steps.{difference, fits}
 use Rattle.calculus.specs.Polynomial.{times, constant}
 use Rattle.calculus.specs.Simplex.{Simplex, point_of}
 use Rattle.calculus.specs.Integral.{integral_value}
 use Rattle.calculus.specs.Mass.{third, sixth, mass_density}
 use Rattle.c_unit.specs.Meaning.{End, Going, Passed, Zero}
+
+-- 384 times each part of a factor in lowest terms is below 2^100
+abbrev pub IsSmallFactor : Fraction → Type 0
+IsSmallFactor c = (384 * unsigned_abs (top c) < 2 ^ 100) × (384 * bottom c < 2 ^ 100)
 
 abbrev pub interval : Fraction → Fraction → Simplex
 interval x₀ x₁ = point_of (x₀ ∷ []) ∷ point_of (x₁ ∷ []) ∷ []

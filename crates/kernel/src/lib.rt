@@ -6,4 +6,4 @@
 mod emit;
 mod mass;
 
-pub use mass::plan_mass;
+pub use mass::{is_small_factor, plan_mass};

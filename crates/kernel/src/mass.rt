@@ -1,11 +1,10 @@
 // The kernel of the mass form on intervals.
 
-ghost use Rattle.std.specs.Prelude.{◌≡◌, ℕ, ◌*◌, ◌<◌, ◌≤◌, ◌^◌, ◌++◌, ◌∷◌, [], IfOk, OnOk, unsigned_abs, pos};
+ghost use Rattle.std.specs.Prelude.{◌≡◌, ℕ, ◌*◌, ◌<◌, ◌≤◌, ◌^◌, ◌++◌, ◌∷◌, [], IfOk, OnOk, IsTrue, ◌↔◌, pos};
 ghost use Rattle.algebra.specs.Fraction.{Fraction, mul, inverse, of_integer};
-ghost use Rattle.algebra.specs.LowestTerms.{top, bottom};
 ghost use Rattle.ratio.specs.Value.{fraction_of};
 ghost use Rattle.c_unit.specs.Meaning.{counted_list, ran};
-ghost use Rattle.kernel.specs.MassShare.{mass_outcome, outcome};
+ghost use Rattle.kernel.specs.MassShare.{IsSmallFactor, mass_outcome, outcome};
 ghost use Rattle.c_unit.specs.declared.unit.Array.TheVariants.{A, T};
 ghost use Rattle.c_unit.specs.declared.unit.CStmt.{Mul, Set};
 ghost use Rattle.kernel.specs.Statements.{mass_statements, plain};
@@ -16,10 +15,20 @@ use ratio::Ratio;
 use sqlite_items::Items;
 use std::alloc::{AllocError, Global};
 
+// 384 times a whole number is below 2^100 exactly up to here.
+const LARGEST_PART: u128 = (1 << 100) / 384;
+
+/// Whether a number may be the factor of a mass form: 384 times its numerator and 384 times its denominator, in lowest
+/// terms, are below 2^100.
+pub fn is_small_factor(c: Ratio) -> bool
+    ensures { IsTrue result ↔ IsSmallFactor (fraction_of c) }
+{
+    c.num().unsigned_abs() <= LARGEST_PART && c.den().unsigned_abs() <= LARGEST_PART
+}
+
 // c over a small whole number.
 fn over(c: Ratio, n: i128) -> Ratio
-    requires small { 384 * unsigned_abs (top (fraction_of c)) < 2 ^ 100 }
-    requires fine { 384 * bottom (fraction_of c) < 2 ^ 100 }
+    requires small { IsSmallFactor (fraction_of c) }
     requires positive { (k : ℕ) × ((n ≡ pos k) × ((0 < k) × (k ≤ 384))) }
     ensures { fraction_of result ≡ mul (fraction_of c) (inverse (of_integer n)) }
 {
@@ -100,8 +109,7 @@ fn mass_body(alloc: Global, same: Ratio, other: Ratio) -> Result<Items<CStmt>, A
 /// of the coordinates, is 0; and 1 where that difference or one of `c*h/3` and `c*h/6` needs more than 127 bits, with h the
 /// size of the volume factor. Where there is no memory for the function, it gives an `AllocError`.
 pub fn plan_mass(alloc: Global, name: &[u8], c: Ratio) -> Result<CFun, AllocError>
-    requires small { 384 * unsigned_abs (top (fraction_of c)) < 2 ^ 100 }
-    requires fine { 384 * bottom (fraction_of c) < 2 ^ 100 }
+    requires { IsSmallFactor (fraction_of c) }
     ensures name { IfOk result (λ f. f.name ≡ name.now) }
     ensures x { IfOk result (λ f. f.x ≡ 2) }
     ensures w { IfOk result (λ f. f.w ≡ 0) }
@@ -119,4 +127,20 @@ pub fn plan_mass(alloc: Global, name: &[u8], c: Ratio) -> Result<CFun, AllocErro
         tables: Items::new(alloc),
         body,
     })
+}
+
+#[cfg(test)]
+mod tests {
+    use super::*;
+    use std::test::Fail;
+
+    #[test]
+    fn the_mass_form_has_nine_statements(rt: HostRuntime) -> Result<(), Fail> {
+        let c = Ratio::one();
+        assert!(rt; is_small_factor(c));
+        let fun = plan_mass(rt.alloc(), b"ffc_a", c)?;
+        assert_eq!(rt; fun.name.as_slice(), b"ffc_a".as_slice());
+        assert_eq!(rt; fun.body.len(), 9);
+        Ok(())
+    }
 }
