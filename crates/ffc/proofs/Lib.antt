@@ -1,4 +1,4 @@
 pub mod SinkLaws
 pub mod FormLaws
 pub mod WordsLaws
-pub mod FactorLaws
+pub mod MatrixLaws

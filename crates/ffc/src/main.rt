@@ -6,6 +6,7 @@
 mod command;
 mod form_file;
 mod lines;
+mod matrix;
 mod loading;
 mod outcome;
 mod output;

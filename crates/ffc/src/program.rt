@@ -14,19 +14,17 @@ use crate::lines::put_outcome;
 use crate::loading::{FORM_LIMIT, MESH_LIMIT, load};
 use crate::outcome::{FormKind, FormRefusal, Outcome, Spot};
 use crate::output::push_matrix;
-use assembly::{Rows, RunRefusal, Triple, assemble_mass};
+use crate::matrix::mass_matrix;
+use assembly::{Rows, RunRefusal, Triple};
 use ends::files::Files;
 use ends::sink::Sink;
-use kernel::plan_mass;
 use mesh_in::{Mesh, MeshKind, MeshRefusal, read_mesh};
 use ratio::Ratio;
 use spaces::Cell;
 use std::alloc::Global;
 
-// The name of the form, and that of its function.
+// The name of the form.
 const FORM_NAME: &str = "a";
-
-const FUNCTION_NAME: &[u8] = b"ffc_a";
 
 // Loads the form, which is the one that can be compiled.
 fn load_form<F: Files>(alloc: Global, files: &mut F, name: &str) -> Result<(), Outcome>
@@ -97,8 +95,7 @@ fn assemble<F: Files>(
 {
     load_form(alloc, files, form)?;
     let mesh = load_mesh(alloc, files, mesh)?;
-    let function = plan_mass(alloc, FUNCTION_NAME, Ratio::one())?;
-    let triples = assemble_mass(alloc, &function, &mesh)?;
+    let triples = mass_matrix(alloc, Ratio::one(), &mesh)?;
     let rows = Rows::new(alloc, &mesh)?.count;
     let mut text = Vec::new(alloc);
     push_matrix(&mut text, FORM_NAME, rows, rows, triples.as_slice())?;

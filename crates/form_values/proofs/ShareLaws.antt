@@ -2,6 +2,7 @@
 use Rattle.std.proofs.Common.{◌≡◌, ◌≢◌, ℕ, zero, suc, ◌+◌, ◌<◌, Bool, true, false, not, ◌||◌, ◌&&◌, refl, sym, ◌∙◌, ap, ap₂, subst, arith, List, [], ◌∷◌, ◌++◌, length, map, take, ltb-true, nat_lt, Option, Some, None, if◌then◌else◌}
 use Rattle.std.specs.Prelude.{slice_index, slice_index_or, ◌==◌}
 use Rattle.std.specs.List.{list_any, flat_map, AllByRecursion}
+use Rattle.std.proofs.lemmas.List.{length-map}
 use Rattle.std.proofs.Math.Dec.{eqb}
 use Rattle.std.proofs.lemmas.Bool.{eq-eqb}
 use Rattle.algebra.specs.Fraction.{Fraction, zero_fraction, add, negative, absolute, is_zero_fraction}
@@ -16,15 +17,19 @@ use Rattle.c_unit.specs.Meaning.{End, ran}
 use Rattle.c_run.specs.Answer.{Answer, answer}
 use Rattle.kernel.specs.MassShare.{Outcome, Shares, Passes, Flat, outcome, mass_outcome, mass_shares, mass_share, share_fits, interval}
 use Rattle.kernel.specs.MassShare as M
-use Rattle.mesh_in.specs.MeshData.{MeshData, IsCell, is_distinct}
+use Rattle.c_unit.specs.declared.unit.Op.{Op}
+use Rattle.ratio.specs.declared.reduced.Ratio.{Ratio}
+use Rattle.ratio.specs.Value.{fraction_of}
+use Rattle.mesh_in.specs.MeshData.{MeshData, IsCell, is_distinct, fractions}
 use Rattle.assembly.specs.Rows.{has_vertex, row_of}
 use Rattle.assembly.specs.Sums.{Entry, AreSums, PassesFirst}
 use Rattle.assembly.specs.Local.{local_entries}
+use Rattle.assembly.specs.Run as R
 use Rattle.assembly.specs.Run.{coordinates_of, answer_on, tensor_of, is_good, IsGood, StopsAt, StopsFirst, cell_entries, run_entries}
 use Rattle.assembly.specs.declared.refusal.RunRefusal.{RunRefusal}
 use Rattle.assembly.specs.declared.refusal.RunRefusal.TheVariants as refusal
 use Rattle.form_values.specs.FormValues.{AreTriples, form_value, simplex_of}
-use Rattle.form_values.specs.Shares.{end_of, outcome_on, has_shares, IsFine, BecomesFirst, cell_shares, share_entries}
+use Rattle.form_values.specs.Shares.{end_of, outcome_on, has_shares, IsFine, BecomesFirst, cell_shares, share_entries, Refuses}
 use Rattle.form_values.proofs.FormValuesLaws.{node_value, cell_sum, AddsIntegrals, all_cells_sum, added_is_total}
 
 -- ---- answers and outcomes
@@ -50,7 +55,7 @@ first_item (x ∷ []) h = refl
 first_item (x ∷ y ∷ p) h = absurd (omega arith)
 
 -- each point has one coordinate
-abbrev OnLine : MeshData Fraction → Type 0
+abbrev pub OnLine : MeshData Fraction → Type 0
 OnLine m = (v : ℕ) → v < length m.points → length (slice_index_or m.points v []) ≡ 1
 
 ends_are : (m : MeshData Fraction) (a b : ℕ) → OnLine m → a < length m.points → b < length m.points
@@ -218,6 +223,22 @@ all_add_shares f c planned mesh line [] is good = refl
 all_add_shares f c planned mesh line (cell ∷ cells) is good =
     ap₂ ◌++◌ (adds_shares f c planned mesh line cell is.0 good.0) (all_add_shares f c planned mesh line cells is.1 good.1)
 
+-- ---- a run that stops
+stops_passes : (e : End) (cell at : ℕ) (op : Op) (l r : Ratio) → StopsAt (answer e) (refusal.CellPassed cell at op l r) → outcome e ≡ Passes
+stops_passes (m.Going s) cell at op l r h = absurd h
+stops_passes (m.Passed n o x y s) cell at op l r h = refl
+stops_passes (m.Zero n s) cell at op l r h = absurd h
+
+item_of : {A : Type 0} (P : A → Type 0) (xs : List A) (k : ℕ) (d : A) → k < length xs → AllByRecursion P xs → P (slice_index_or xs k d)
+item_of P [] k d h all = absurd (omega arith)
+item_of P (x ∷ xs) zero d h all = all.0
+item_of P (x ∷ xs) (suc k) d h all = item_of P xs k d (omega arith) all.1
+
+front_of : {A : Type 0} (P : A → Type 0) (xs : List A) (k : ℕ) → AllByRecursion P xs → AllByRecursion P (take k xs)
+front_of P xs zero all = tt
+front_of P [] (suc k) all = tt
+front_of P (x ∷ xs) (suc k) all = (all.0, front_of P xs k all.1)
+
 -- ---- the answers of an assembly by the planned function
 module _ (f : CFun) (c : Fraction) (planned : IsPlanned f c) (mesh : MeshData Fraction) (line : OnLine mesh) (cells : AllByRecursion (IsCell 1 (length mesh.points)) mesh.cells) where
   -- every cell has its shares
@@ -231,3 +252,30 @@ module _ (f : CFun) (c : Fraction) (planned : IsPlanned f c) (mesh : MeshData Fr
 
   pub sums_pass : AllByRecursion (IsGood f mesh) mesh.cells → (row col : ℕ) → PassesFirst (run_entries f mesh) row col → PassesFirst (share_entries mesh c) row col
   sums_pass good row col h = subst (λ es. PassesFirst es row col) (all_add_shares f c planned mesh line mesh.cells cells good) h
+
+  becomes : (k : ℕ) (e : RunRefusal) (o : Outcome) → (outcome (ran f (coordinates_of mesh (slice_index_or mesh.cells k [])) []) ≡ o)
+      → StopsFirst f mesh k e → BecomesFirst mesh c k o
+  becomes k e o is h =
+      ( h.0
+      , both (IsCell 1 (length mesh.points)) (IsGood f mesh) (IsFine mesh c) (take k mesh.cells) (good_is_fine f c planned mesh line) (front_of (IsCell 1 (length mesh.points)) mesh.cells k cells) h.1
+      , sym (run_outcome f c planned mesh line (slice_index_or mesh.cells k []) (item_of (IsCell 1 (length mesh.points)) mesh.cells k [] h.0 cells)) ∙ is)
+
+  -- why the assembly refuses is why there is no matrix of the form
+  pub refuses : (e : RunRefusal) → R.Refuses f mesh e → Refuses mesh c e
+  refuses (refusal.Zero cell at) h = becomes cell (refusal.Zero cell at) Flat (stops_flat (ran f (coordinates_of mesh (slice_index_or mesh.cells cell [])) []) cell at h.2) h
+  refuses (refusal.CellPassed cell at op l r) h =
+      becomes cell (refusal.CellPassed cell at op l r) Passes (stops_passes (ran f (coordinates_of mesh (slice_index_or mesh.cells cell [])) []) cell at op l r h.2) h
+  refuses (refusal.SumPassed row col) h = (all_fine h.0, sums_pass h.0 row col h.1)
+  refuses refusal.Memory h = tt
+
+-- ---- meshes of intervals
+on_line_at : (points : List (List Ratio)) (v : ℕ) → v < length points → AllByRecursion (λ p. length p ≡ 1) points → length (slice_index_or (map (map fraction_of) points) v []) ≡ 1
+on_line_at [] v h all = absurd (omega arith)
+on_line_at (p ∷ points) zero h all = length-map p fraction_of ∙ all.0
+on_line_at (p ∷ points) (suc v) h all = on_line_at points v (omega arith) all.1
+
+pub on_line : (m : MeshData Ratio) → AllByRecursion (λ p. length p ≡ 1) m.points → OnLine (fractions m)
+on_line m all v h = on_line_at m.points v (subst (λ n. v < n) (length-map m.points (map fraction_of)) h) all
+
+pub cells_in : (m : MeshData Ratio) → AllByRecursion (IsCell 1 (length m.points)) m.cells → AllByRecursion (IsCell 1 (length (fractions m).points)) (fractions m).cells
+cells_in m all = subst (λ n. AllByRecursion (IsCell 1 n) m.cells) (sym (length-map m.points (map fraction_of))) all

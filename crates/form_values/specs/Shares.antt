@@ -4,7 +4,9 @@ use Rattle.std.specs.List.{flat_map, AllByRecursion}
 use Rattle.algebra.specs.Fraction.{Fraction, zero_fraction}
 use Rattle.kernel.specs.MassShare.{Outcome, Shares, Passes, Flat, mass_shares, mass_outcome}
 use Rattle.mesh_in.specs.MeshData.{MeshData}
-use Rattle.assembly.specs.Sums.{Entry}
+use Rattle.assembly.specs.Sums.{Entry, PassesFirst}
+use Rattle.assembly.specs.declared.refusal.RunRefusal.{RunRefusal}
+use Rattle.assembly.specs.declared.refusal.RunRefusal.TheVariants as refusal
 use Rattle.assembly.specs.Rows.{row_of}
 use Rattle.assembly.specs.Local.{local_entries}
 
@@ -34,3 +36,10 @@ cell_shares m c cell = local_entries (map (row_of m.cells) cell) (map (row_of m.
 
 abbrev pub share_entries : MeshData Fraction → Fraction → List Entry
 share_entries m c = flat_map (cell_shares m c) m.cells
+
+-- when there is no matrix: for the first cell that has no shares, or else for the first entry whose shares, cells in order, can't be added up
+abbrev pub Refuses : MeshData Fraction → Fraction → RunRefusal → Type 0
+Refuses m c (refusal.Zero cell at) = BecomesFirst m c cell Flat
+Refuses m c (refusal.CellPassed cell at op left right) = BecomesFirst m c cell Passes
+Refuses m c (refusal.SumPassed row col) = AllByRecursion (IsFine m c) m.cells × PassesFirst (share_entries m c) row col
+Refuses m c refusal.Memory = Unit {0}

@@ -1,0 +1,32 @@
+//! The matrix of the form `c*u*v*dx`, by the runs of its kernel.
+ghost use Rattle.std.specs.Prelude.{◌≡◌, map, IfOk, IfErr, OnOk};
+ghost use Rattle.std.specs.List.{AllByRecursion};
+ghost use Rattle.ratio.specs.Value.{fraction_of};
+ghost use Rattle.kernel.specs.MassShare.{IsSmallFactor};
+ghost use Rattle.spaces.specs.declared.cell.Cell.TheVariants.{Interval};
+ghost use Rattle.mesh_in.specs.MeshData.{IsMesh, fractions};
+ghost use Rattle.assembly.specs.Kept.{seen};
+ghost use Rattle.form_values.specs.FormValues.{AreTriples};
+ghost use Rattle.form_values.specs.Shares.{IsFine, Refuses};
+
+use assembly::{RunRefusal, Triple, assemble_mass};
+use kernel::plan_mass;
+use mesh_in::Mesh;
+use ratio::Ratio;
+use std::alloc::Global;
+
+// The name of the function of the form `a`.
+const FUNCTION_NAME: &[u8] = b"ffc_a";
+
+/// The values of the form `c*u*v*dx` that are not zero, by row and then by column, for the continuous functions of degree one on intervals.
+pub fn mass_matrix(alloc: Global, c: Ratio, mesh: &Mesh) -> Result<Vec<Triple>, RunRefusal>
+    requires factor { IsSmallFactor (fraction_of c) }
+    requires kind { mesh.now.kind ≡ Interval }
+    requires mesh { IsMesh mesh.now }
+    ensures triples { IfOk result (λ ts. AreTriples (fractions mesh.now) (fraction_of c) (map seen ts.items)) }
+    ensures fine { OnOk result (AllByRecursion (IsFine (fractions mesh.now) (fraction_of c)) mesh.now.cells) }
+    ensures refusal { IfErr result (Refuses (fractions mesh.now) (fraction_of c)) }
+{
+    let function = plan_mass(alloc, FUNCTION_NAME, c)?;
+    assemble_mass(alloc, &function, mesh)
+}
