@@ -1,9 +1,10 @@
-// The greatest common divisor by shifts and differences.
+// The greatest common divisor by shifts and differences (J. Stein 1967; Knuth, The Art of Computer Programming, volume 2, section 4.5.2,
+// algorithm B). Divisions of 128-bit numbers are slow, so there is at most one, and numbers that fit a word stay in words.
 
 ghost use Rattle.std.specs.Prelude.{◌≡◌, ℕ, ◌<◌, ◌≤◌, ◌%◌, ◌*◌, ◌/◌, ◌^◌};
 ghost use Rattle.algebra.specs.Gcd.{gcd};
 
-// Without its factors 2.
+// The number without its factors 2.
 fn odd_part(n: u64) -> u64
     requires { 0 < n }
     ensures odd { result % 2 ≡ 1 }
@@ -13,7 +14,7 @@ fn odd_part(n: u64) -> u64
     n >> n.trailing_zeros()
 }
 
-// One of them odd.
+// The greatest common divisor of an odd word and another.
 fn odd_divisor(a: u64, b: u64) -> u64
     requires { a % 2 ≡ 1 }
     ensures { result ≡ gcd a b }
@@ -32,7 +33,7 @@ fn odd_divisor(a: u64, b: u64) -> u64
     x
 }
 
-// The same of wider numbers.
+// The wider number without its factors 2.
 fn wide_odd_part(n: u128) -> u128
     requires { 0 < n }
     ensures odd { result % 2 ≡ 1 }
@@ -42,8 +43,10 @@ fn wide_odd_part(n: u128) -> u128
     n >> n.trailing_zeros()
 }
 
+// The largest number of one word.
 const WORD: u128 = 0xffff_ffff_ffff_ffff;
 
+// The greatest common divisor of an odd number and another, in words as soon as both fit.
 fn wide_odd_divisor(a: u128, b: u128) -> u128
     requires { a % 2 ≡ 1 }
     ensures { result ≡ gcd a b }
@@ -65,7 +68,7 @@ fn wide_odd_divisor(a: u128, b: u128) -> u128
     x
 }
 
-// Where i is the place of a's lowest bit and b has none below it.
+// The greatest common divisor where i is the place of a's lowest bit and b has none below it.
 fn shifted_divisor(a: u128, b: u128, i: u32) -> u128
     requires small { i < 128 }
     requires some { 0 < a }
@@ -77,6 +80,7 @@ fn shifted_divisor(a: u128, b: u128, i: u32) -> u128
     wide_odd_divisor(a >> i, b >> i) << i
 }
 
+// The greatest common divisor without any division.
 fn binary_divisor(a: u128, b: u128) -> u128
     ensures { result ≡ gcd a b }
 {
@@ -95,6 +99,7 @@ fn binary_divisor(a: u128, b: u128) -> u128
     }
 }
 
+/// The greatest common divisor; that of 0 and n is n.
 pub fn greatest_common_divisor(a: u128, b: u128) -> u128
     ensures { result ≡ gcd a b }
 {

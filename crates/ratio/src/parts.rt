@@ -4,6 +4,7 @@ ghost use Rattle.std.specs.Prelude.{◌≡◌, ℤ, pos, ◌*◌, ◌/◌, ◌<�
 ghost use Rattle.std.specs.Option.{SomeIff};
 ghost use Rattle.algebra.specs.Sign.{signs_differ, is_negative};
 
+// The largest number of one word.
 const WORD: u128 = 0xffff_ffff_ffff_ffff;
 
 /// The first size that is no part of a fraction: 2^127.

@@ -11,7 +11,7 @@ pub nonzero_div-b : goal.nonzero_div-b
 nonzero_div-b c = subst (λ n. 0 < n) (sym c.greatest_common_divisor-g.ensures) (gcd_positive_right _ _ (pos_of_ne-zero c.if-b-eq0.false))
 
 pub build-requires-clause-positive : goal.build-requires-clause-positive
-build-requires-clause-positive c = (lowest_terms c.unsigned_abs-a.result c.unsigned_abs-b.result c.greatest_common_divisor-g.result (pos_of_ne-zero c.if-b-eq0.false) c.greatest_common_divisor-g.ensures).positive
+build-requires-clause-positive c = (lowest_terms _ c.unsigned_abs-b.result c.greatest_common_divisor-g.result (pos_of_ne-zero c.if-b-eq0.false) c.greatest_common_divisor-g.ensures).positive
 
 pub build-requires-clause-lowest : goal.build-requires-clause-lowest
 build-requires-clause-lowest c = (lowest_terms c.unsigned_abs-a.result c.unsigned_abs-b.result c.greatest_common_divisor-g.result (pos_of_ne-zero c.if-b-eq0.false) c.greatest_common_divisor-g.ensures).lowest

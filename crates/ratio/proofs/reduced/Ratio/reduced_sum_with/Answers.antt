@@ -3,25 +3,25 @@ use Rattle.algebra.specs.Gcd.{gcd}
 use Rattle.algebra.specs.Sign.{signed, is_negative}
 use Rattle.ratio.specs.Value.{fraction_of}
 use Rattle.algebra.specs.Fraction.{add as plus}
-use Rattle.algebra.specs.GcdLaws.{gcd_positive_left, gcd_positive_right}
+use Rattle.algebra.specs.GcdLaws.{gcd_positive_right}
 use Rattle.ratio.proofs.ProductLaws.{none_where, below_limit, plain_integer, value_where}
 use Rattle.ratio.proofs.SumLaws.{sum_steps, built_sum, SumFound}
 use Rattle.ratio.proofs.reduced.Ratio.reduced_sum_with.Goals as goal
 
 pub scaled_quotient-requires-clause-some : goal.scaled_quotient-requires-clause-some
-scaled_quotient-requires-clause-some c = subst (λ n. 0 < n) (sym c.greatest_common_divisor-g.ensures) (gcd_positive_left _ _ c.args.self.positive)
+scaled_quotient-requires-clause-some c = subst (λ n. 0 < n) (sym c.greatest_common_divisor-g.ensures) (gcd_positive_right _ _ c.args.o.positive)
 
 pub scaled_quotient-requires-2-clause-some : goal.scaled_quotient-requires-2-clause-some
-scaled_quotient-requires-2-clause-some c = subst (λ n. 0 < n) (sym c.greatest_common_divisor-g.ensures) (gcd_positive_left _ _ c.args.self.positive)
+scaled_quotient-requires-2-clause-some c = subst (λ n. 0 < n) (sym c.greatest_common_divisor-g.ensures) (gcd_positive_right _ _ c.args.o.positive)
 
 pub quotient_product-requires-clause-left : goal.quotient_product-requires-clause-left
-quotient_product-requires-clause-left c = subst (λ n. 0 < n) (sym c.greatest_common_divisor-g.ensures) (gcd_positive_left _ _ c.args.self.positive)
+quotient_product-requires-clause-left c = subst (λ n. 0 < n) (sym c.greatest_common_divisor-g.ensures) (gcd_positive_right _ _ c.args.o.positive)
 
 pub quotient_product-requires-clause-right : goal.quotient_product-requires-clause-right
-quotient_product-requires-clause-right c = subst (λ n. 0 < n) (sym c.greatest_common_divisor-h.ensures) (gcd_positive_right _ _ (subst (λ n. 0 < n) (sym c.greatest_common_divisor-g.ensures) (gcd_positive_left _ _ c.args.self.positive)))
+quotient_product-requires-clause-right c = subst (λ n. 0 < n) (sym c.greatest_common_divisor-h.ensures) (gcd_positive_right _ _ (subst (λ n. 0 < n) (sym c.greatest_common_divisor-g.ensures) (gcd_positive_right _ _ c.args.o.positive)))
 
 pub nonzero_div-size : goal.nonzero_div-size
-nonzero_div-size c = subst (λ n. 0 < n) (sym c.greatest_common_divisor-h.ensures) (gcd_positive_right _ _ (subst (λ n. 0 < n) (sym c.greatest_common_divisor-g.ensures) (gcd_positive_left _ _ c.args.self.positive)))
+nonzero_div-size c = subst (λ n. 0 < n) (sym c.greatest_common_divisor-h.ensures) (gcd_positive_right _ _ (subst (λ n. 0 < n) (sym c.greatest_common_divisor-g.ensures) (gcd_positive_right _ _ c.args.o.positive)))
 
 pub returns-in_err-bottom-clause-passes : goal.returns-in_err-bottom-clause-passes
 returns-in_err-bottom-clause-passes c =
