@@ -5,7 +5,12 @@
 set -e
 copy=$(mktemp -d)
 trap 'rm -rf "$copy"' EXIT
-cp -r HANDLES crates.txt crates "$copy"
+mkdir "$copy"/crates
+cp HANDLES "$copy"
+for crate in algebra ratio c_unit c_run; do
+    cp -r crates/$crate "$copy"/crates
+    grep "^$crate:" crates.txt >> "$copy"/crates.txt
+done
 cd "$copy"
 rt new crates/machine_race start_io > /dev/null
 rm -rf crates/machine_race/proofs crates/machine_race/specs crates/machine_race/stdin crates/machine_race/stdout crates/machine_race/out

@@ -1,4 +1,5 @@
 pub mod MassLaw
 pub mod MassRun
+pub mod MassWithin
 pub mod Over
 pub mod Rules

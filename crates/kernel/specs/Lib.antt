@@ -1,3 +1,4 @@
 pub mod Ends
 pub mod MassShare
 pub mod Statements
+pub mod Straight
