@@ -15,7 +15,7 @@ named_again Triangle = refl
 named_again Tetrahedron = refl
 
 test_fails : (P : Type 0) (b : Bool) → Decides b P → (P → ⊥) → b ≡ false
-test_fails P true h other = absurd (other h)
+test_fails P true h other = absurd (other (h.0 refl))
 test_fails P false h other = refl
 
 pub other_bytes : (xs ys : List ℕ) → xs ≢ ys → bytes_eq xs ys ≡ false

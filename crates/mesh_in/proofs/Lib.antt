@@ -1,7 +1,9 @@
 pub mod FieldLemmas
+pub mod GrammarLaws
 pub mod HeaderLemmas
 pub mod LineLemmas
 pub mod NumberLemmas
+pub mod NumberTextLemmas
 pub mod ReadingLemmas
 pub mod RowLemmas
 pub mod StepLemmas

@@ -16,8 +16,9 @@ use Rattle.mesh_in.specs.declared.refusal.MeshRefusal.{MeshRefusal}
 use Rattle.mesh_in.specs.declared.refusal.MeshKind.TheVariants.{Syntax}
 use Rattle.mesh_in.specs.Number.{number_of, coordinate_of}
 use Rattle.mesh_in.specs.MeshData.{MeshData, IsCell, are_below, is_distinct, fractions, rows}
-use Rattle.mesh_in.specs.MeshText.{row, ◌>>=◌, Said, nothing, begun, after_header, header_of, after_cell, after_row, at_line, complete}
-use Rattle.mesh_in.specs.Reader.{appended, points_of, IsOpen, IsRefusedBy}
+use Rattle.mesh_in.specs.MeshText.{row, Said, nothing, begun, after_header, header_of, after_cell, after_row, at_line, complete, IsOpen}
+use Rattle.mesh_in.specs.Options.{◌>>=◌}
+use Rattle.mesh_in.specs.Reader.{appended, points_of, IsRefusedBy}
 use Rattle.mesh_in.specs.Storage.{stored}
 use Rattle.mesh_in.proofs.RowLemmas.{length-rows, rows_push, map-rows}
 

@@ -25,10 +25,6 @@ abbrev pub goes_on : Option Line → Lines → Said → Result (MeshData Fractio
 goes_on None left said = complete left.number said
 goes_on (Some line) left said = at_line line.number (after_row said (words line.text.now)) (λ next. remaining left next)
 
--- more must come
-abbrev pub IsOpen : Said → Type 0
-IsOpen said = (number : ℕ) → complete number said ≡ Err (refusal Syntax number)
-
 -- an error for want of memory, or the refusal
 abbrev pub Fails : MeshRefusal → Result (MeshData Fraction) MeshRefusal → Type 0
 Fails e read = (e ≡ out_of_memory) ⊎ (read ≡ Err e)
