@@ -14,7 +14,8 @@ use Rattle.mesh_in.specs.declared.header.Header.{Header}
 use Rattle.mesh_in.specs.declared.refusal.MeshKind.{MeshKind}
 use Rattle.mesh_in.specs.declared.refusal.MeshRefusal.{MeshRefusal}
 use Rattle.mesh_in.specs.declared.refusal.MeshKind.TheVariants.{Syntax}
-use Rattle.mesh_in.specs.Number.{number_of, coordinate_of}
+use Rattle.mesh_in.specs.Number.{number_of}
+use Rattle.mesh_in.specs.NumberReading.{coordinate_of}
 use Rattle.mesh_in.specs.MeshData.{MeshData, IsCell, are_below, is_distinct, fractions, rows}
 use Rattle.mesh_in.specs.MeshText.{row, Said, nothing, begun, after_header, header_of, after_cell, after_row, at_line, complete, IsOpen}
 use Rattle.mesh_in.specs.Options.{◌>>=◌}

@@ -13,7 +13,8 @@ use Rattle.mesh_in.specs.declared.refusal.MeshRefusal.{MeshRefusal}
 use Rattle.mesh_in.specs.Options.{◌>>=◌}
 use Rattle.mesh_in.specs.Refusal.{refusal}
 use Rattle.mesh_in.specs.Line.{content, has_plain_bytes, words}
-use Rattle.mesh_in.specs.Number.{number_of, coordinate_of}
+use Rattle.mesh_in.specs.Number.{number_of}
+use Rattle.mesh_in.specs.NumberReading.{coordinate_of}
 use Rattle.mesh_in.specs.MeshData.{MeshData, is_distinct, are_below}
 
 -- ---- the words of one line
