@@ -1,5 +1,6 @@
 pub mod FieldLemmas
 pub mod GrammarLaws
+pub mod HeaderLaws
 pub mod HeaderLemmas
 pub mod LineLemmas
 pub mod NumberLemmas
