@@ -1,22 +1,21 @@
 -- What the lines say, one after the other, is what the grammar relates them to
-use Rattle.std.proofs.Common.{◌≡◌, ℕ, zero, suc, ◌+◌, ◌<◌, ◌≤◌, Bool, true, false, cond, ltb, leb, eqb, List, [], ◌∷◌, ◌++◌, length, Option, Some, None, Result, Ok, Err, refl, sym, ap, subst, ◌∙◌, inl, inr, append_assoc, arith}
-use Rattle.std.specs.Prelude.{◌&&◌, ◌⊎◌, filter, map}
+use Rattle.std.proofs.Common.{◌≡◌, ℕ, zero, suc, ◌+◌, ◌<◌, ◌≤◌, Bool, true, false, cond, ltb, List, [], ◌∷◌, ◌++◌, length, Option, Some, None, Result, Ok, Err, refl, sym, ap, subst, ◌∙◌, inl, inr, append_assoc, arith}
+use Rattle.std.specs.Prelude.{◌⊎◌}
 use Rattle.std.specs.List.{AllByRecursion, AllZip}
-use Rattle.std.proofs.lemmas.Bool.{ltb-true, ltb-false, leb-true, lt-ltb, le-ltb, le-leb, and_parts}
+use Rattle.std.proofs.lemmas.Bool.{ltb-true, ltb-false, lt-ltb, le-ltb}
 use Rattle.std.proofs.lemmas.List.{length-append, append-nil}
 use Rattle.algebra.specs.Fraction.{Fraction}
-use Rattle.ratio.specs.NumberText.{number_value}
 use Rattle.spaces.specs.Cell.{dimension}
 use Rattle.mesh_in.specs.declared.header.Header.{Header}
 use Rattle.mesh_in.specs.declared.refusal.MeshKind.{MeshKind}
-use Rattle.mesh_in.specs.declared.refusal.MeshKind.TheVariants.{Lex, Syntax, Count, VertexRange, RepeatedVertex}
-use Rattle.mesh_in.specs.Line.{content, has_plain_bytes, is_some_word, words}
+use Rattle.mesh_in.specs.declared.refusal.MeshKind.TheVariants.{Lex, Syntax, VertexRange, RepeatedVertex}
+use Rattle.mesh_in.specs.Line.{content, has_plain_bytes, words}
 use Rattle.mesh_in.specs.Number.{number_of}
 use Rattle.mesh_in.specs.NumberReading.{coordinate_of}
 use Rattle.mesh_in.specs.MeshData.{IsCell, are_below, is_distinct}
-use Rattle.mesh_in.specs.MeshText.{Said, nothing, begun, row, header_of, after_header, after_point, after_cell, after_row, after_words, after_line, most}
+use Rattle.mesh_in.specs.MeshText.{Said, begun, row, after_point, after_cell, after_row, after_words, after_line}
 use Rattle.mesh_in.specs.Options.{◌>>=◌}
-use Rattle.mesh_in.specs.MeshGrammar.{word_lines, StandsFor, IsNatural, IsRow, IsHeader, Opens, Says}
+use Rattle.mesh_in.specs.MeshGrammar.{word_lines, StandsFor, IsNatural, IsRow}
 use Rattle.mesh_in.proofs.NumberTextLemmas.{number_again, number_is}
 
 -- ---- one row
@@ -126,8 +125,16 @@ nothing_added h points cells t few_points few_cells e = record {
   more_points = [];
   more_cells = [];
   adds = record {
-    plain = tt; point_lines = []; cell_lines = []; lines_are = refl; are_points = tt; are_cells = tt; lawful = tt;
-    few_points = rw (append-nil points) few_points; few_cells = rw (append-nil cells) few_cells; in_order = inl refl;
+    plain = tt;
+    point_lines = [];
+    cell_lines = [];
+    lines_are = refl;
+    are_points = tt;
+    are_cells = tt;
+    lawful = tt;
+    few_points = rw (append-nil points) few_points;
+    few_cells = rw (append-nil cells) few_cells;
+    in_order = inl refl;
   };
   is = sym (said_is (begun h points cells) t e) ∙ rw (append-nil points, append-nil cells) refl;
 }
@@ -143,8 +150,16 @@ after_blank h points cells line more t plain none a = record {
   more_points = a.more_points;
   more_cells = a.more_cells;
   adds = let b = a.adds in record {
-    plain = (plain, b.plain); point_lines = b.point_lines; cell_lines = b.cell_lines; lines_are = lines_of_blank line more none ∙ b.lines_are;
-    are_points = b.are_points; are_cells = b.are_cells; lawful = b.lawful; few_points = b.few_points; few_cells = b.few_cells; in_order = b.in_order;
+    plain = (plain, b.plain);
+    point_lines = b.point_lines;
+    cell_lines = b.cell_lines;
+    lines_are = lines_of_blank line more none ∙ b.lines_are;
+    are_points = b.are_points;
+    are_cells = b.are_cells;
+    lawful = b.lawful;
+    few_points = b.few_points;
+    few_cells = b.few_cells;
+    in_order = b.in_order;
   };
   is = a.is;
 }
@@ -158,9 +173,13 @@ after_a_point h points cells line more w ws point t plain some is_point a = reco
   more_points = point ∷ a.more_points;
   more_cells = a.more_cells;
   adds = let b = a.adds in record {
-    plain = (plain, b.plain); point_lines = (w ∷ ws) ∷ b.point_lines; cell_lines = b.cell_lines;
+    plain = (plain, b.plain);
+    point_lines = (w ∷ ws) ∷ b.point_lines;
+    cell_lines = b.cell_lines;
     lines_are = lines_of_row line more w ws some ∙ ap (λ ls. (w ∷ ws) ∷ ls) b.lines_are;
-    are_points = (is_point, b.are_points); are_cells = b.are_cells; lawful = b.lawful;
+    are_points = (is_point, b.are_points);
+    are_cells = b.are_cells;
+    lawful = b.lawful;
     few_points = subst (λ ps. length ps ≤ h.vertices) (regroup points point a.more_points) b.few_points;
     few_cells = b.few_cells;
     in_order = elim b.in_order [ inl none ↦ inl none | inr full ↦ inr (subst (λ ps. length ps ≡ h.vertices) (regroup points point a.more_points) full) ];
@@ -185,9 +204,13 @@ after_a_cell h points cells line more w ws cell t full plain some is_row is_cell
       more_points = a.more_points;
       more_cells = cell ∷ a.more_cells;
       adds = record {
-        plain = (plain, b.plain); point_lines = b.point_lines; cell_lines = (w ∷ ws) ∷ b.cell_lines;
+        plain = (plain, b.plain);
+        point_lines = b.point_lines;
+        cell_lines = (w ∷ ws) ∷ b.cell_lines;
         lines_are = lines_of_row line more w ws some ∙ ap (λ ls. (w ∷ ws) ∷ ls) (b.lines_are ∙ ap (λ ls. ls ++ b.cell_lines) no_points.0) ∙ ap (λ ls. ls ++ ((w ∷ ws) ∷ b.cell_lines)) (sym no_points.0);
-        are_points = b.are_points; are_cells = (is_row, b.are_cells); lawful = (is_cell, b.lawful);
+        are_points = b.are_points;
+        are_cells = (is_row, b.are_cells);
+        lawful = (is_cell, b.lawful);
         few_points = b.few_points;
         few_cells = subst (λ cs. length cs ≤ h.cells) (regroup cells cell a.more_cells) b.few_cells;
         in_order = inr (ap length whole ∙ full);
@@ -253,13 +276,13 @@ added_line : (line : List ℕ) (more : List (List ℕ)) (h : Header) (points : L
 added_line line more h points cells t later few_points few_cells s [] are plain says rest =
     after_blank h points cells line more t plain are (later points cells few_points few_cells (subst (λ s. said_by s more ≡ Ok t) (sym (said_is (begun h points cells) s says)) rest))
 added_line line more h points cells t later few_points few_cells s (w ∷ ws) are plain says rest = elim (row_said h points cells (w ∷ ws) s says) [
-    | a_point point lt is_row is ↦
-        after_a_point h points cells line more w ws point t plain are is_row
-        (later (points ++ point ∷ []) cells (omega (arith, length-push points point)) few_cells (subst (λ s. said_by s more ≡ Ok t) is rest))
-    | a_cell cell full lt is_row is_cell is ↦
-        after_a_cell h points cells line more w ws cell t (omega arith) plain are is_row is_cell
-        (later points (cells ++ cell ∷ []) few_points (omega (arith, length-push cells cell)) (subst (λ s. said_by s more ≡ Ok t) is rest))
-  ]
+  | a_point point lt is_row is ↦
+      after_a_point h points cells line more w ws point t plain are is_row
+      (later (points ++ point ∷ []) cells (omega (arith, length-push points point)) few_cells (subst (λ s. said_by s more ≡ Ok t) is rest))
+  | a_cell cell full lt is_row is_cell is ↦
+      after_a_cell h points cells line more w ws cell t (omega arith) plain are is_row is_cell
+      (later points (cells ++ cell ∷ []) few_points (omega (arith, length-push cells cell)) (subst (λ s. said_by s more ≡ Ok t) is rest))
+]
 
 -- what lines say after the header is what they add
 pub added : (ls : List (List ℕ)) (h : Header) (t : Said) → Later h ls t
@@ -313,10 +336,18 @@ row_says line more w ws h points cells [] (l ∷ ls) [] (d ∷ ds) later plain r
     let room : length cells < h.cells = omega (arith, few_cells, length-append cells (d ∷ ds)) in
     goes_on (begun h points cells) (begun h points (cells ++ d ∷ [])) (begun h (points ++ []) (cells ++ d ∷ ds)) line more
     (line_again (begun h points cells) (begun h points (cells ++ d ∷ [])) line w ws plain some
-      (cell_again h points cells (w ∷ ws) d full room (subst (λ l. IsRow IsNatural (dimension h.kind + 1) l d) (sym p.0) zip_cells.0) lawful.0))
+    (cell_again h points cells (w ∷ ws) d full room (subst (λ l. IsRow IsNatural (dimension h.kind + 1) l d) (sym p.0) zip_cells.0) lawful.0))
     (later points (cells ++ d ∷ []) [] ds (record {
-      plain = rest; point_lines = []; cell_lines = ls; lines_are = p.1; are_points = tt; are_cells = zip_cells.1; lawful = lawful.1;
-      few_points = few_points; few_cells = subst (λ cs. length cs ≤ h.cells) (sym (regroup cells d ds)) few_cells; in_order = inr (ap length (append-nil points) ∙ full);
+      plain = rest;
+      point_lines = [];
+      cell_lines = ls;
+      lines_are = p.1;
+      are_points = tt;
+      are_cells = zip_cells.1;
+      lawful = lawful.1;
+      few_points = few_points;
+      few_cells = subst (λ cs. length cs ≤ h.cells) (sym (regroup cells d ds)) few_cells;
+      in_order = inr (ap length (append-nil points) ∙ full);
     }) ∙ ap (λ cs. Ok (begun h (points ++ []) cs)) (regroup cells d ds))
 row_says line more w ws h points cells (l ∷ ls) cell_lines [] more_cells later plain rest some are zip_points zip_cells lawful few_points few_cells order = absurd zip_points
 row_says line more w ws h points cells (l ∷ ls) cell_lines (q ∷ qs) more_cells later plain rest some are zip_points zip_cells lawful few_points few_cells order =
@@ -324,10 +355,17 @@ row_says line more w ws h points cells (l ∷ ls) cell_lines (q ∷ qs) more_cel
     let room : length points < h.vertices = omega (arith, few_points, length-append points (q ∷ qs)) in
     goes_on (begun h points cells) (begun h (points ++ q ∷ []) cells) (begun h (points ++ q ∷ qs) (cells ++ more_cells)) line more
     (line_again (begun h points cells) (begun h (points ++ q ∷ []) cells) line w ws plain some
-      (point_again h points cells (w ∷ ws) q room (subst (λ l. IsRow StandsFor (dimension h.kind) l q) (sym p.0) zip_points.0)))
+    (point_again h points cells (w ∷ ws) q room (subst (λ l. IsRow StandsFor (dimension h.kind) l q) (sym p.0) zip_points.0)))
     (later (points ++ q ∷ []) cells qs more_cells (record {
-      plain = rest; point_lines = ls; cell_lines = cell_lines; lines_are = p.1; are_points = zip_points.1; are_cells = zip_cells; lawful = lawful;
-      few_points = subst (λ ps. length ps ≤ h.vertices) (sym (regroup points q qs)) few_points; few_cells = few_cells;
+      plain = rest;
+      point_lines = ls;
+      cell_lines = cell_lines;
+      lines_are = p.1;
+      are_points = zip_points.1;
+      are_cells = zip_cells;
+      lawful = lawful;
+      few_points = subst (λ ps. length ps ≤ h.vertices) (sym (regroup points q qs)) few_points;
+      few_cells = few_cells;
       in_order = elim order [ inl none ↦ inl none | inr e ↦ inr (ap length (regroup points q qs) ∙ e) ];
     }) ∙ ap (λ ps. Ok (begun h ps (cells ++ more_cells))) (regroup points q qs))
 
@@ -336,8 +374,16 @@ line_says : (line : List ℕ) (more : List (List ℕ)) (ws : List (List ℕ)) (h
 line_says line more [] h points cells more_points more_cells later are a =
     goes_on (begun h points cells) (begun h points cells) (begun h (points ++ more_points) (cells ++ more_cells)) line more (blank_again (begun h points cells) line a.plain.0 are)
     (later points cells more_points more_cells (record {
-      plain = a.plain.1; point_lines = a.point_lines; cell_lines = a.cell_lines; lines_are = sym (lines_of_blank line more are) ∙ a.lines_are; are_points = a.are_points; are_cells = a.are_cells; lawful = a.lawful;
-      few_points = a.few_points; few_cells = a.few_cells; in_order = a.in_order;
+      plain = a.plain.1;
+      point_lines = a.point_lines;
+      cell_lines = a.cell_lines;
+      lines_are = sym (lines_of_blank line more are) ∙ a.lines_are;
+      are_points = a.are_points;
+      are_cells = a.are_cells;
+      lawful = a.lawful;
+      few_points = a.few_points;
+      few_cells = a.few_cells;
+      in_order = a.in_order;
     }))
 line_says line more (w ∷ ws) h points cells more_points more_cells later are a =
     row_says line more w ws h points cells a.point_lines a.cell_lines more_points more_cells later a.plain.0 a.plain.1 are (sym (lines_of_row line more w ws are) ∙ a.lines_are) a.are_points a.are_cells a.lawful a.few_points a.few_cells a.in_order

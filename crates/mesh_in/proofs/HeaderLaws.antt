@@ -1,24 +1,16 @@
 -- The header, and the lines before it
-use Rattle.std.proofs.Common.{◌≡◌, ℕ, ◌+◌, ◌<◌, ◌≤◌, Bool, true, false, cond, leb, List, [], ◌∷◌, ◌++◌, length, Option, Some, None, Result, Ok, Err, refl, sym, ap, subst, ◌∙◌, inl, inr, arith}
-use Rattle.std.specs.Prelude.{◌&&◌, ◌⊎◌, codes}
-use Rattle.std.specs.List.{AllByRecursion}
+use Rattle.std.proofs.Common.{◌≡◌, ℕ, Bool, true, false, cond, List, [], ◌∷◌, Option, Some, None, refl, ap, subst, ◌∙◌}
+use Rattle.std.specs.Prelude.{codes}
 use Rattle.std.specs.Str.{bytes_eq}
-use Rattle.std.proofs.lemmas.Bool.{leb-true, le-leb, and_parts}
 use Rattle.std.proofs.lemmas.Slice.Eq.{bytes_eq-Decides}
-use Rattle.algebra.specs.Fraction.{Fraction}
 use Rattle.spaces.specs.Cell.{cell_name}
 use Rattle.spaces.specs.declared.cell.Cell.{Cell}
 use Rattle.spaces.specs.declared.cell.Cell.TheVariants.{Interval, Triangle, Tetrahedron}
 use Rattle.mesh_in.specs.declared.header.Header.{Header}
-use Rattle.mesh_in.specs.declared.refusal.MeshKind.{MeshKind}
-use Rattle.mesh_in.specs.declared.refusal.MeshKind.TheVariants.{Syntax, Count}
-use Rattle.mesh_in.specs.Line.{content, has_plain_bytes, words}
 use Rattle.mesh_in.specs.Number.{number_of}
-use Rattle.mesh_in.specs.MeshText.{Said, nothing, begun, keyword, one, cell_named, at_end, header_of, after_header, after_row, after_words, after_line, most}
-use Rattle.mesh_in.specs.Options.{◌>>=◌}
-use Rattle.mesh_in.specs.MeshGrammar.{word_lines, IsHeader, Opens, Says}
+use Rattle.mesh_in.specs.MeshText.{keyword, one, cell_named, at_end, header_of}
 use Rattle.mesh_in.proofs.HeaderLemmas.{named_again}
-use Rattle.mesh_in.proofs.GrammarLaws.{said_by, one_line, good_line, goes_on, blank_again, line_again, lines_of_blank, lines_of_row, first_is, bind_some, some_is, done, said_is, Adds, Added, added, says_added}
+use Rattle.mesh_in.proofs.GrammarLaws.{bind_some, some_is}
 
 -- ---- its words
 
@@ -64,7 +56,7 @@ pub record HasHeaderWords (ws : List (List ℕ)) (h : Header) : Type 0 where
   pub all_vertices : number_of vertices ≡ Some h.vertices
   pub all_cells : number_of cells ≡ Some h.cells
 
-header_is : (ws : List (List ℕ)) (h : Header) → header_of ws ≡ Some h → HasHeaderWords ws h
+pub header_is : (ws : List (List ℕ)) (h : Header) → header_of ws ≡ Some h → HasHeaderWords ws h
 unfolding header_of
 header_is ws h e =
     let mesh = bind_some (keyword (codes "mesh") ws) _ h e in
@@ -80,13 +72,13 @@ header_is ws h e =
       vertices = v.0;
       cells = c.0;
       words_are = keyword_is (codes "mesh") ws mesh.0 mesh.1
-        ∙ ap (λ vs. codes "mesh" ∷ vs) (keyword_is (codes "1") mesh.0 version.0 version.1
-        ∙ ap (λ vs. codes "1" ∷ vs) (k.1 ∙ ap (λ name. name ∷ kind.0.1) (name_is k.0 kind.0.0 k.2)
-        ∙ ap (λ vs. cell_name kind.0.0 ∷ vs) (v.1 ∙ ap (λ vs. v.0 ∷ vs) (c.1 ∙ ap (λ vs. c.0 ∷ vs) end.0))));
+          ∙ ap (λ vs. codes "mesh" ∷ vs) (keyword_is (codes "1") mesh.0 version.0 version.1
+          ∙ ap (λ vs. codes "1" ∷ vs) (k.1 ∙ ap (λ name. name ∷ kind.0.1) (name_is k.0 kind.0.0 k.2)
+          ∙ ap (λ vs. cell_name kind.0.0 ∷ vs) (v.1 ∙ ap (λ vs. v.0 ∷ vs) (c.1 ∙ ap (λ vs. c.0 ∷ vs) end.0))));
       all_vertices = v.2;
       all_cells = c.2;
     })
 
-header_again : (ws : List (List ℕ)) (h : Header) → HasHeaderWords ws h → header_of ws ≡ Some h
+pub header_again : (ws : List (List ℕ)) (h : Header) → HasHeaderWords ws h → header_of ws ≡ Some h
 unfolding header_of
 header_again ws h p = rw (p.words_are, named_again h.kind, p.all_vertices, p.all_cells) refl

@@ -9,4 +9,5 @@ pub mod ReadingLemmas
 pub mod RowLemmas
 pub mod StepLemmas
 pub mod StoredLemmas
+pub mod TextLaws
 pub mod WordLemmas

@@ -1,17 +1,14 @@
 -- The number of a text is the one to which the grammar relates it
-use Rattle.std.proofs.Common.{◌≡◌, ℕ, suc, ◌+◌, ◌<◌, ◌≤◌, Bool, true, false, cond, eqb, ltb, leb, List, [], ◌∷◌, ◌++◌, length, Option, Some, None, refl, sym, ap, subst, ◌∙◌, inl, inr, append_assoc, arith}
+use Rattle.std.proofs.Common.{◌≡◌, ℕ, ◌<◌, ◌≤◌, Bool, true, false, cond, eqb, leb, List, [], ◌∷◌, ◌++◌, length, Option, Some, None, refl, sym, ap, subst, ◌∙◌, inl, inr, append_assoc, arith}
 use Rattle.std.specs.Prelude.{◌&&◌, ◌||◌, ◌⊎◌, OnSome, ⊤}
 use Rattle.std.specs.List.{list_all}
 use Rattle.std.specs.Char.{digit_value}
-use Rattle.std.specs.Fmt.{sign_text}
 use Rattle.std.specs.Str.Parse.{AllDigits, IsNumeral, digits_value}
-use Rattle.std.proofs.lemmas.Bool.{ltb-true, ltb-false, leb-true, le-leb, lt-ltb, le-ltb, eqb-true, ne_eqb, and_parts}
-use Rattle.std.proofs.lemmas.Bool.Decides.{nat_tests}
-use Rattle.std.proofs.lemmas.List.{append-nil}
+use Rattle.std.proofs.lemmas.Bool.{ltb-true, leb-true, le-leb, lt-ltb, eqb-true, ne_eqb, and_parts}
 use Rattle.algebra.specs.Fraction.{Fraction}
 use Rattle.ratio.specs.declared.reduced.Ratio.{Ratio}
 use Rattle.ratio.specs.Value.{valued}
-use Rattle.ratio.specs.NumberText.{Decimal, Magnitude, Quotient, Point, IsMantissa, IsSign, IsSignedSize, IsWrittenExponent, IsExponent, IsDecimal, IsMagnitude, IsNumber, number_value}
+use Rattle.ratio.specs.NumberText.{Decimal, Magnitude, Quotient, Point, IsMantissa, IsSignedSize, IsExponent, IsDecimal, IsMagnitude, IsNumber, number_value}
 use Rattle.mesh_in.specs.Line.{is_word}
 use Rattle.mesh_in.specs.Options.{◌>>=◌}
 use Rattle.mesh_in.specs.NumberReading.{is_digit, before_other, split_digits, is_numeral, size_at, signed_size, exponent_at, decimal_at, quotient_at, behind_digits, magnitude_at, signed_at, coordinate_of}
@@ -100,9 +97,9 @@ signed_again text true size s =
     let e : text ≡ 45 ∷ s.digits = s.text_is ∙ ap (λ sign. sign ++ s.digits) s.is_sign in
     rw (e, s.size_is) (size_again true s.digits s.is_numeral s.at_most_three)
 signed_again text false size s = elim s.is_sign [
-    | inl none ↦ rw (s.text_is, none, s.size_is) (unsigned s.digits s.is_numeral s.at_most_three)
-    | inr plus ↦ rw (s.text_is, plus, s.size_is) (size_again false s.digits s.is_numeral s.at_most_three)
-  ]
+  | inl none ↦ rw (s.text_is, none, s.size_is) (unsigned s.digits s.is_numeral s.at_most_three)
+  | inr plus ↦ rw (s.text_is, plus, s.size_is) (size_again false s.digits s.is_numeral s.at_most_three)
+]
 
 mark_again : (mark : ℕ) → (mark ≡ 101) ⊎ (mark ≡ 69) → (eqb mark 101 || eqb mark 69) ≡ true
 mark_again mark (inl e) = rw e refl
@@ -145,20 +142,20 @@ at_split text digits rest e = ap (λ (s : List ℕ × List ℕ). behind_digits s
 point_again : (text : List ℕ) (d : Decimal) → IsDecimal text d → magnitude_at text ≡ Some (Point d)
 unfolding Begins
 point_again text d is = elim is.is_mantissa.3 [
-    | inl plain ↦
-        let e : text ≡ d.whole ++ is.behind = is.text_is ∙ ap (λ m. m ++ is.behind) plain.0 in
-        let some : 0 < length (d.whole ++ []) = subst (λ f. 0 < length (d.whole ++ f)) plain.1 is.is_mantissa.2 in
-        at_split text d.whole is.behind (ap split_digits e ∙ split_joined d.whole is.behind is.is_mantissa.0 (exponent_begins is.behind d.lowered d.exponent is.is_exponent))
-        ∙ behind_whole d.whole is.behind d.lowered d.exponent is.is_exponent
-        ∙ decimal_again d.whole [] is.behind d.lowered d.exponent some is.is_exponent
-        ∙ ap (λ (f : List ℕ). Some (Point (record { whole = d.whole; fraction = f; lowered = d.lowered; exponent = d.exponent }))) (sym plain.1)
-    | inr pointed ↦
-        let e : text ≡ d.whole ++ (46 ∷ (d.fraction ++ is.behind)) = is.text_is ∙ ap (λ m. m ++ is.behind) pointed ∙ append_assoc d.whole (46 ∷ d.fraction) is.behind in
-        let split : split_digits (d.fraction ++ is.behind) ≡ (d.fraction, is.behind) = split_joined d.fraction is.behind is.is_mantissa.1 (exponent_begins is.behind d.lowered d.exponent is.is_exponent) in
-        at_split text d.whole (46 ∷ (d.fraction ++ is.behind)) (ap split_digits e ∙ split_joined d.whole (46 ∷ (d.fraction ++ is.behind)) is.is_mantissa.0 refl)
-        ∙ ap (λ (s : List ℕ × List ℕ). decimal_at d.whole s.0 s.1) split
-        ∙ decimal_again d.whole d.fraction is.behind d.lowered d.exponent is.is_mantissa.2 is.is_exponent
-  ]
+  | inl plain ↦
+      let e : text ≡ d.whole ++ is.behind = is.text_is ∙ ap (λ m. m ++ is.behind) plain.0 in
+      let some : 0 < length (d.whole ++ []) = subst (λ f. 0 < length (d.whole ++ f)) plain.1 is.is_mantissa.2 in
+      at_split text d.whole is.behind (ap split_digits e ∙ split_joined d.whole is.behind is.is_mantissa.0 (exponent_begins is.behind d.lowered d.exponent is.is_exponent))
+      ∙ behind_whole d.whole is.behind d.lowered d.exponent is.is_exponent
+      ∙ decimal_again d.whole [] is.behind d.lowered d.exponent some is.is_exponent
+      ∙ ap (λ (f : List ℕ). Some (Point (record { whole = d.whole; fraction = f; lowered = d.lowered; exponent = d.exponent }))) (sym plain.1)
+  | inr pointed ↦
+      let e : text ≡ d.whole ++ (46 ∷ (d.fraction ++ is.behind)) = is.text_is ∙ ap (λ m. m ++ is.behind) pointed ∙ append_assoc d.whole (46 ∷ d.fraction) is.behind in
+      let split : split_digits (d.fraction ++ is.behind) ≡ (d.fraction, is.behind) = split_joined d.fraction is.behind is.is_mantissa.1 (exponent_begins is.behind d.lowered d.exponent is.is_exponent) in
+      at_split text d.whole (46 ∷ (d.fraction ++ is.behind)) (ap split_digits e ∙ split_joined d.whole (46 ∷ (d.fraction ++ is.behind)) is.is_mantissa.0 refl)
+      ∙ ap (λ (s : List ℕ × List ℕ). decimal_at d.whole s.0 s.1) split
+      ∙ decimal_again d.whole d.fraction is.behind d.lowered d.exponent is.is_mantissa.2 is.is_exponent
+]
 
 quotient_again : (text above below : List ℕ) → IsNumeral 10 above → IsNumeral 10 below → text ≡ above ++ 47 ∷ below → magnitude_at text ≡ Some (Quotient above below)
 unfolding Begins

@@ -4,7 +4,7 @@ use Rattle.std.specs.List.{list_all}
 use Rattle.std.specs.Char.{digit_value}
 use Rattle.std.specs.Str.Parse.{digits_value}
 use Rattle.algebra.specs.Fraction.{Fraction}
-use Rattle.ratio.specs.NumberText.{Decimal, Magnitude, Quotient, Point, number_value}
+use Rattle.ratio.specs.NumberText.{Magnitude, Quotient, Point, number_value}
 use Rattle.mesh_in.specs.Line.{is_word}
 use Rattle.mesh_in.specs.Options.{◌>>=◌}
 

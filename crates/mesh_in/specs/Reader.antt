@@ -9,7 +9,6 @@ use Rattle.mesh_in.specs.declared.header.Header.{Header}
 use Rattle.mesh_in.specs.declared.lines.Line.{Line}
 use Rattle.mesh_in.specs.declared.lines.Lines.{Lines}
 use Rattle.mesh_in.specs.declared.refusal.MeshKind.{MeshKind}
-use Rattle.mesh_in.specs.declared.refusal.MeshKind.TheVariants.{Syntax}
 use Rattle.mesh_in.specs.declared.refusal.MeshRefusal.{MeshRefusal}
 use Rattle.mesh_in.specs.Line.{words}
 use Rattle.mesh_in.specs.MeshData.{MeshData, fractions, rows}
