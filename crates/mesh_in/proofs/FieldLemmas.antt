@@ -1,8 +1,9 @@
 -- The words of a row, one after the other
-use Rattle.std.proofs.Common.{◌≡◌, ℕ, zero, suc, ◌+◌, ◌-◌, ◌<◌, ◌≤◌, true, false, List, [], ◌∷◌, ◌++◌, Option, Some, None, refl, sym, ap, ◌∙◌, append_assoc, arith}
+use Rattle.std.proofs.Common.{◌≡◌, ℕ, suc, ◌+◌, ◌-◌, ◌<◌, ◌≤◌, true, false, List, [], ◌∷◌, ◌++◌, Option, Some, None, refl, sym, ap, ◌∙◌, append_assoc, arith}
 use Rattle.std.proofs.lemmas.List.{append-nil}
 use Rattle.mesh_in.specs.Line.{is_some_word}
-use Rattle.mesh_in.specs.MeshText.{row, ◌>>=◌}
+use Rattle.mesh_in.specs.MeshText.{row}
+use Rattle.mesh_in.specs.Options.{◌>>=◌}
 use Rattle.mesh_in.specs.Reader.{appended}
 
 -- after i of the words: those that are left complete what was read to the whole

@@ -1,9 +1,13 @@
 pub mod FieldLemmas
+pub mod GrammarLaws
+pub mod HeaderLaws
 pub mod HeaderLemmas
 pub mod LineLemmas
 pub mod NumberLemmas
+pub mod NumberTextLemmas
 pub mod ReadingLemmas
 pub mod RowLemmas
 pub mod StepLemmas
 pub mod StoredLemmas
+pub mod TextLaws
 pub mod WordLemmas

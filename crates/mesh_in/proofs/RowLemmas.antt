@@ -2,7 +2,7 @@
 use Rattle.std.proofs.Common.{◌≡◌, ℕ, zero, suc, ◌+◌, ◌*◌, ◌<◌, ◌≤◌, List, [], ◌∷◌, ◌++◌, length, take, drop, Some, refl, sym, ap, subst, ◌∙◌, arith}
 use Rattle.std.specs.Prelude.{map, slice_get}
 use Rattle.std.specs.List.{AllByRecursion}
-use Rattle.std.proofs.lemmas.List.{length-append, length-drop, length-take-le, drop-drop, take-append-le, drop-append-le, take_all, drop-map, take-map}
+use Rattle.std.proofs.lemmas.List.{length-drop, length-take-le, drop-drop, take-append-le, drop-append-le, take_all, drop-map, take-map}
 use Rattle.mesh_in.specs.MeshData.{rows}
 
 pub length-rows : {A : Type 0} (width count : ℕ) (xs : List A) → length (rows width count xs) ≡ count

@@ -1,5 +1,5 @@
 -- What one line of a point or a cell adds
-use Rattle.std.proofs.Common.{◌≡◌, ℕ, zero, suc, ◌+◌, ◌*◌, ◌<◌, true, false, eqb, List, [], ◌∷◌, ◌++◌, length, drop, Option, Some, None, Result, Ok, Err, refl, sym, ap, subst, ◌∙◌, arith}
+use Rattle.std.proofs.Common.{◌≡◌, ℕ, zero, suc, ◌+◌, ◌*◌, ◌<◌, true, eqb, List, [], ◌∷◌, ◌++◌, length, drop, Option, Some, None, Result, Ok, Err, refl, sym, ap, subst, ◌∙◌, arith}
 use Rattle.std.specs.Prelude.{map}
 use Rattle.std.specs.List.{AllByRecursion}
 use Rattle.std.proofs.lemmas.Bool.{lt-ltb, le-ltb, ne_eqb, eq-eqb}
@@ -14,10 +14,12 @@ use Rattle.mesh_in.specs.declared.header.Header.{Header}
 use Rattle.mesh_in.specs.declared.refusal.MeshKind.{MeshKind}
 use Rattle.mesh_in.specs.declared.refusal.MeshRefusal.{MeshRefusal}
 use Rattle.mesh_in.specs.declared.refusal.MeshKind.TheVariants.{Syntax}
-use Rattle.mesh_in.specs.Number.{number_of, coordinate_of}
+use Rattle.mesh_in.specs.Number.{number_of}
+use Rattle.mesh_in.specs.NumberReading.{coordinate_of}
 use Rattle.mesh_in.specs.MeshData.{MeshData, IsCell, are_below, is_distinct, fractions, rows}
-use Rattle.mesh_in.specs.MeshText.{row, ◌>>=◌, Said, nothing, begun, after_header, header_of, after_cell, after_row, at_line, complete}
-use Rattle.mesh_in.specs.Reader.{appended, points_of, IsOpen, IsRefusedBy}
+use Rattle.mesh_in.specs.MeshText.{row, Said, nothing, begun, after_header, header_of, after_cell, after_row, at_line, complete, IsOpen}
+use Rattle.mesh_in.specs.Options.{◌>>=◌}
+use Rattle.mesh_in.specs.Reader.{appended, points_of, IsRefusedBy}
 use Rattle.mesh_in.specs.Storage.{stored}
 use Rattle.mesh_in.proofs.RowLemmas.{length-rows, rows_push, map-rows}
 

@@ -1,7 +1,10 @@
 pub mod Line
 pub mod MeshData
+pub mod MeshGrammar
 pub mod MeshText
 pub mod Number
+pub mod NumberReading
+pub mod Options
 pub mod Reader
 pub mod Refusal
 pub mod Storage

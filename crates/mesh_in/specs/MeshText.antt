@@ -1,5 +1,5 @@
 -- The text of a mesh: what its lines say, the first to the last, or what is wrong with the first bad one
-use Rattle.std.specs.Prelude.{ℕ, zero, suc, ◌+◌, ◌==◌, ◌&&◌, nat_lt, nat_le, List, [], ◌∷◌, ◌++◌, length, Option, Some, None, Result, Ok, Err, codes, if◌then◌else◌}
+use Rattle.std.specs.Prelude.{◌≡◌, ℕ, zero, suc, ◌+◌, ◌==◌, ◌&&◌, nat_lt, nat_le, List, [], ◌∷◌, ◌++◌, length, Option, Some, None, Result, Ok, Err, codes, if◌then◌else◌}
 use Rattle.std.specs.Str.{bytes_eq}
 use Rattle.std.specs.Str.Lines.{lines}
 use Rattle.algebra.specs.Fraction.{Fraction}
@@ -10,15 +10,12 @@ use Rattle.mesh_in.specs.declared.header.Header.{Header}
 use Rattle.mesh_in.specs.declared.refusal.MeshKind.{MeshKind}
 use Rattle.mesh_in.specs.declared.refusal.MeshKind.TheVariants.{TooLong, Lex, Syntax, Count, VertexRange, RepeatedVertex}
 use Rattle.mesh_in.specs.declared.refusal.MeshRefusal.{MeshRefusal}
+use Rattle.mesh_in.specs.Options.{◌>>=◌}
 use Rattle.mesh_in.specs.Refusal.{refusal}
 use Rattle.mesh_in.specs.Line.{content, has_plain_bytes, words}
-use Rattle.mesh_in.specs.Number.{number_of, coordinate_of}
+use Rattle.mesh_in.specs.Number.{number_of}
+use Rattle.mesh_in.specs.NumberReading.{coordinate_of}
 use Rattle.mesh_in.specs.MeshData.{MeshData, is_distinct, are_below}
-
-infixl 10 ◌>>=◌
-abbrev pub ◌>>=◌ : {A B : Type 0} → Option A → (A → Option B) → Option B
-None >>= f = None
-(Some x) >>= f = f x
 
 -- ---- the words of one line
 
@@ -112,6 +109,10 @@ complete number (begun h points cells) =
     if (length points == h.vertices) && (length cells == h.cells)
     then Ok (record { kind = h.kind; points = points; cells = cells })
     else Err (refusal Syntax number)
+
+-- more must come
+abbrev pub IsOpen : Said → Type 0
+IsOpen said = (number : ℕ) → complete number said ≡ Err (refusal Syntax number)
 
 -- goes on after the line of this number, unless it is bad
 abbrev pub at_line : ℕ → Result Said MeshKind → (Said → Result (MeshData Fraction) MeshRefusal) → Result (MeshData Fraction) MeshRefusal

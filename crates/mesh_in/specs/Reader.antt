@@ -9,7 +9,6 @@ use Rattle.mesh_in.specs.declared.header.Header.{Header}
 use Rattle.mesh_in.specs.declared.lines.Line.{Line}
 use Rattle.mesh_in.specs.declared.lines.Lines.{Lines}
 use Rattle.mesh_in.specs.declared.refusal.MeshKind.{MeshKind}
-use Rattle.mesh_in.specs.declared.refusal.MeshKind.TheVariants.{Syntax}
 use Rattle.mesh_in.specs.declared.refusal.MeshRefusal.{MeshRefusal}
 use Rattle.mesh_in.specs.Line.{words}
 use Rattle.mesh_in.specs.MeshData.{MeshData, fractions, rows}
@@ -24,10 +23,6 @@ remaining left said = reading left.number said (lines left.rest.now)
 abbrev pub goes_on : Option Line → Lines → Said → Result (MeshData Fraction) MeshRefusal
 goes_on None left said = complete left.number said
 goes_on (Some line) left said = at_line line.number (after_row said (words line.text.now)) (λ next. remaining left next)
-
--- more must come
-abbrev pub IsOpen : Said → Type 0
-IsOpen said = (number : ℕ) → complete number said ≡ Err (refusal Syntax number)
 
 -- an error for want of memory, or the refusal
 abbrev pub Fails : MeshRefusal → Result (MeshData Fraction) MeshRefusal → Type 0

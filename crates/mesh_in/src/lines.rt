@@ -95,8 +95,8 @@ pub struct Lines<'a> {
 }
 
 impl<'a> Lines<'a> {
-    ghost use Rattle.mesh_in.specs.MeshText.{Said, after_row, reading};
-    ghost use Rattle.mesh_in.specs.Reader.{remaining, goes_on, IsOpen};
+    ghost use Rattle.mesh_in.specs.MeshText.{Said, IsOpen, after_row, reading};
+    ghost use Rattle.mesh_in.specs.Reader.{remaining, goes_on};
 
     pub fn new(text: &'a [u8]) -> Lines<'a>
         requires { length text.now ≤ longest }

@@ -1,13 +1,15 @@
 //! A mesh from its text.
 
-ghost use Rattle.std.specs.Prelude.{◌≡◌, ◌+◌, ◌*◌, ◌≤◌, [], List, IfOk, IfErr, Ok, length};
+ghost use Rattle.std.specs.Prelude.{◌≡◌, ◌⊎◌, ◌+◌, ◌*◌, ◌≤◌, [], List, IfOk, IfErr, Ok, Err, length};
 ghost use Rattle.std.specs.List.{AllByRecursion};
 ghost use Rattle.std.specs.Str.Lines.{lines};
 ghost use Rattle.algebra.specs.Fraction.{Fraction};
 ghost use Rattle.spaces.specs.Cell.{dimension};
 ghost use Rattle.mesh_in.specs.Line.{words};
-ghost use Rattle.mesh_in.specs.MeshData.{IsCell, rows};
+ghost use Rattle.mesh_in.specs.MeshData.{MeshData, IsCell, fractions, rows};
+ghost use Rattle.mesh_in.specs.MeshGrammar.{IsMeshText, IsRefused};
 ghost use Rattle.mesh_in.specs.MeshText.{longest, nothing, begun, header_of, after_header, reading, meaning};
+ghost use Rattle.mesh_in.specs.Refusal.{out_of_memory};
 ghost use Rattle.mesh_in.specs.Reader.{remaining, points_of, Fails, Gives, IsRefusedBy};
 
 use crate::header::{Header, read_header};
@@ -84,11 +86,8 @@ fn read_lines(alloc: Global, text: &[u8]) -> Result<Mesh, MeshRefusal>
     Ok(Mesh::new(header, coordinates, corners))
 }
 
-/// The mesh of a text, or what is wrong with its first bad line.
-///
-/// The format is in docs/FORMATS.md. Refusals are 1 to 6 of `MeshKind`, and `Memory` where memory runs out.
-pub fn read_mesh(alloc: Global, text: &[u8]) -> Result<Mesh, MeshRefusal>
-    ensures exact { Gives result (meaning text.now) }
+fn read(alloc: Global, text: &[u8]) -> Result<Mesh, MeshRefusal>
+    ensures { Gives result (meaning text.now) }
 {
     if text.len() > LONGEST {
         return Err(MeshRefusal {
@@ -98,4 +97,22 @@ pub fn read_mesh(alloc: Global, text: &[u8]) -> Result<Mesh, MeshRefusal>
         });
     }
     read_lines(alloc, text)
+}
+
+/// The mesh of a text, or what is wrong with its first bad line.
+///
+/// The format is in docs/FORMATS.md. Refusals are 1 to 6 of `MeshKind`, and `Memory` where memory runs out.
+pub fn read_mesh(alloc: Global, text: &[u8]) -> Result<Mesh, MeshRefusal>
+    // What is read is the mesh of the text, and the mesh of a text is read.
+    ensures mesh { IfOk result (λ m. IsMeshText text.now (fractions m)) }
+    ensures every_mesh { (m : MeshData Fraction) → IsMeshText text.now m → Gives result (Ok m) }
+
+    // The refusal is that of the first bad line, and each text with one is refused.
+    ensures refusal { IfErr result (λ e. (e ≡ out_of_memory) ⊎ IsRefused text.now e) }
+    ensures every_refusal { (e : MeshRefusal) → IsRefused text.now e → Gives result (Err e) }
+
+    // Each text has one meaning.
+    ensures meaning { Gives result (meaning text.now) }
+{
+    read(alloc, text)
 }

@@ -5,7 +5,8 @@ ghost use Rattle.algebra.specs.Fraction.{Fraction};
 ghost use Rattle.ratio.specs.Value.{fraction_of, valued};
 ghost use Rattle.spaces.specs.Cell.{dimension};
 ghost use Rattle.mesh_in.specs.Line.{words};
-ghost use Rattle.mesh_in.specs.Number.{number_of, coordinate_of};
+ghost use Rattle.mesh_in.specs.Number.{number_of};
+ghost use Rattle.mesh_in.specs.NumberReading.{coordinate_of};
 ghost use Rattle.mesh_in.specs.MeshData.{IsCell, are_below, is_distinct};
 ghost use Rattle.mesh_in.specs.MeshText.{row, after_cell};
 ghost use Rattle.mesh_in.specs.Refusal.{refusal, out_of_memory};
@@ -17,11 +18,10 @@ use crate::refusal::{MeshKind, MeshRefusal};
 use crate::words::{first_word, has_words, read_number};
 use ratio::Ratio;
 
-#[tactic(auto, unfolding(crate::specs::Number::coordinate_of))]
 fn read_coordinate(word: &[u8]) -> Option<Ratio>
     ensures { valued result ≡ coordinate_of word.now }
 {
-    Ratio::new(read_number(word)? as i128, 1)
+    Ratio::read(word)
 }
 
 /// Appends the coordinates of a point: just so many numbers.

@@ -5,7 +5,7 @@ use ratio::Ratio;
 use spaces::Cell;
 use std::test::Fail;
 
-const TRIANGLE: &[u8] = b"mesh 1 triangle 3 1\n0 0\n1 0\n0 12\n0 1 2\n";
+const TRIANGLE: &[u8] = b"mesh 1 triangle 3 1\n0 0\n-.5e1 0\n0 6/4\n0 1 2\n";
 
 #[test]
 fn reads_a_triangle(rt: HostRuntime) -> Result<(), Fail> {
@@ -14,10 +14,14 @@ fn reads_a_triangle(rt: HostRuntime) -> Result<(), Fail> {
     assert_eq!(rt; mesh.vertices(), 3);
     assert_eq!(rt; mesh.cells(), 1);
     assert_eq!(rt; mesh.cell(0).vertices, [0, 1, 2].as_slice());
-    let point = mesh.point(2);
-    assert_eq!(rt; point[0].num(), 0);
-    assert_eq!(rt; point[1].num(), 12);
-    assert_eq!(rt; point[1].den(), 1);
+    assert_eq!(rt;
+        mesh.point(1),
+        [Ratio::new(-5, 1).ok_or("fits")?, Ratio::zero()].as_slice()
+    );
+    assert_eq!(rt;
+        mesh.point(2),
+        [Ratio::zero(), Ratio::new(3, 2).ok_or("fits")?].as_slice()
+    );
     Ok(())
 }
 
@@ -40,7 +44,7 @@ fn takes_these_texts(rt: HostRuntime) {
 
 #[test]
 fn names_the_first_bad_line(rt: HostRuntime) {
-    let texts: [(&[u8], MeshKind, u32); 34] = [
+    let texts: [(&[u8], MeshKind, u32); 36] = [
         (b"", MeshKind::Syntax, 0),
         (b"\n", MeshKind::Syntax, 1),
         (b"\n# nothing\n", MeshKind::Syntax, 2),
@@ -63,6 +67,8 @@ fn names_the_first_bad_line(rt: HostRuntime) {
         (b"mesh 1 interval 2 1\n0 0\n1\n0 1\n", MeshKind::Syntax, 2),
         (b"mesh 1 triangle 1 0\n0\n", MeshKind::Syntax, 2),
         (b"mesh 1 interval 1 0\nx\n", MeshKind::Syntax, 2),
+        (b"mesh 1 interval 1 0\n1/0\n", MeshKind::Syntax, 2),
+        (b"mesh 1 interval 1 0\n1e39\n", MeshKind::Syntax, 2),
         (b"mesh 1 interval 1 0\n0\n0\n", MeshKind::Syntax, 3),
         (b"mesh 1 interval 1 0\n0\n\n\x7f\n", MeshKind::Lex, 4),
         (

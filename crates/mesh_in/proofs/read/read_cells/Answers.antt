@@ -1,9 +1,9 @@
-use Rattle.std.proofs.Common.{◌≡◌, ◌*◌, ◌+◌, [], length, refl, sym, ap, inl, inr, ◌∙◌, arith}
+use Rattle.std.proofs.Common.{◌≡◌, ◌*◌, ◌+◌, length, refl, sym, ap, inl, inr, ◌∙◌, arith}
 use Rattle.std.proofs.lemmas.Result.{err_from_is_err_and}
 use Rattle.spaces.specs.Cell.{dimension}
 use Rattle.mesh_in.specs.Line.{words}
 use Rattle.mesh_in.specs.MeshData.{rows}
-use Rattle.mesh_in.specs.MeshText.{begun, after_row, at_line}
+use Rattle.mesh_in.specs.MeshText.{begun, after_row}
 use Rattle.mesh_in.specs.Reader.{remaining}
 use Rattle.mesh_in.proofs.StepLemmas.{open_cells, at_cell, next_cell, goes, stops}
 use Rattle.mesh_in.proofs.read.read_cells.Goals as goal

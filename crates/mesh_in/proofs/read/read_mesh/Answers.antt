@@ -1,10 +1,16 @@
-use Rattle.std.proofs.Common.{sym, subst, inr, arith}
+use Rattle.std.proofs.Common.{subst}
 use Rattle.mesh_in.specs.Reader.{Gives}
-use Rattle.mesh_in.proofs.ReadingLemmas.{long_text, short_text}
+use Rattle.mesh_in.proofs.TextLaws.{mesh_read, refusal_read, mesh_text_again, refused_text_again}
 use Rattle.mesh_in.proofs.read.read_mesh.Goals as goal
 
-pub returns-then-text-gt-LONGEST : goal.returns-then-text-gt-LONGEST
-returns-then-text-gt-LONGEST c = record { exact = inr (long_text c.args.text.now (omega arith)) }
+pub returns-clause-mesh : goal.returns-clause-mesh
+returns-clause-mesh c = mesh_read c.args.text.now c.read.result c.read.ensures
 
-pub returns : goal.returns
-returns c = record { exact = subst (Gives c.read_lines.result) (sym (short_text c.args.text.now (omega arith))) c.read_lines.ensures }
+pub returns-clause-every_mesh : goal.returns-clause-every_mesh
+returns-clause-every_mesh c = λ m is. subst (Gives c.read.result) (mesh_text_again c.args.text.now m is) c.read.ensures
+
+pub returns-clause-refusal : goal.returns-clause-refusal
+returns-clause-refusal c = refusal_read c.args.text.now c.read.result c.read.ensures
+
+pub returns-clause-every_refusal : goal.returns-clause-every_refusal
+returns-clause-every_refusal c = λ e is. subst (Gives c.read.result) (refused_text_again c.args.text.now e is) c.read.ensures

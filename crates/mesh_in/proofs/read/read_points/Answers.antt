@@ -4,7 +4,7 @@ use Rattle.spaces.specs.Cell.{dimension}
 use Rattle.mesh_in.specs.declared.refusal.MeshKind.TheVariants.{Syntax}
 use Rattle.mesh_in.specs.Line.{words}
 use Rattle.mesh_in.specs.MeshData.{rows}
-use Rattle.mesh_in.specs.MeshText.{begun, after_row, at_line}
+use Rattle.mesh_in.specs.MeshText.{begun, after_row}
 use Rattle.mesh_in.specs.Reader.{points_of, remaining}
 use Rattle.mesh_in.proofs.StepLemmas.{open_at, no_point, next_point, goes, stops}
 use Rattle.mesh_in.proofs.read.read_points.Goals as goal

@@ -1,4 +1,4 @@
-use Rattle.std.proofs.Common.{◌≡◌, ◌*◌, ◌<◌, length, []}
+use Rattle.std.proofs.Common.{◌≡◌, ◌*◌, length, []}
 use Rattle.spaces.specs.Cell.{dimension}
 use Rattle.mesh_in.specs.MeshText.{begun}
 use Rattle.mesh_in.specs.Reader.{remaining, points_of}

@@ -3,7 +3,7 @@ use Rattle.std.specs.Prelude.{map}
 use Rattle.std.proofs.lemmas.List.{map_push}
 use Rattle.ratio.specs.Value.{fraction_of}
 use Rattle.mesh_in.specs.Line.{words}
-use Rattle.mesh_in.specs.Number.{coordinate_of}
+use Rattle.mesh_in.specs.NumberReading.{coordinate_of}
 use Rattle.mesh_in.specs.MeshText.{row}
 use Rattle.mesh_in.proofs.FieldLemmas.{Completes, too_few, no_value, one_value, too_many, all_values}
 use Rattle.mesh_in.proofs.rows.push_coordinates.Goals as goal

@@ -2,7 +2,7 @@ use Rattle.std.proofs.Common.{◌≡◌, ◌-◌}
 use Rattle.std.specs.Prelude.{map}
 use Rattle.ratio.specs.Value.{fraction_of}
 use Rattle.mesh_in.specs.Line.{words}
-use Rattle.mesh_in.specs.Number.{coordinate_of}
+use Rattle.mesh_in.specs.NumberReading.{coordinate_of}
 use Rattle.mesh_in.specs.MeshText.{row}
 use Rattle.mesh_in.specs.Reader.{appended}
 use Rattle.mesh_in.proofs.rows.push_coordinates.Given as goal

@@ -1,4 +1,4 @@
-use Rattle.std.proofs.Common.{◌≡◌, ◌+◌, ◌++◌, ◌∷◌, [], sym, subst, inr, ◌∙◌}
+use Rattle.std.proofs.Common.{◌+◌, sym, subst, inr, ◌∙◌}
 use Rattle.mesh_in.specs.Line.{words}
 use Rattle.mesh_in.specs.Number.{number_of}
 use Rattle.mesh_in.specs.MeshText.{row}

@@ -1,4 +1,4 @@
-use Rattle.std.proofs.Common.{◌≡◌, ◌<◌, refl, length, sym, ◌∙◌, arith}
+use Rattle.std.proofs.Common.{◌≡◌, refl, length, sym, ◌∙◌, arith}
 use Rattle.std.proofs.lemmas.Bool.{eqb-true, eqb-false}
 use Rattle.mesh_in.proofs.NumberLemmas.{no_digit, too_large, one_more, all_read, no_number}
 use Rattle.mesh_in.proofs.words.read_number.Goals as goal

@@ -1,4 +1,4 @@
-use Rattle.std.proofs.Common.{◌≡◌, ℕ, ◌<◌, get_or, true, false}
+use Rattle.std.proofs.Common.{◌≡◌, ℕ, ◌<◌, get_or, false}
 use Rattle.mesh_in.specs.Line.{is_blank}
 use Rattle.mesh_in.proofs.words.word_end.Given as goal
 

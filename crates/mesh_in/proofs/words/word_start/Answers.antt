@@ -1,4 +1,4 @@
-use Rattle.std.proofs.Common.{ap, refl, sym, arith, length, ◌≡◌, ℕ, ◌<◌, ◌≤◌, get_or}
+use Rattle.std.proofs.Common.{ap, sym, arith, length}
 use Rattle.std.specs.Prelude.{not}
 use Rattle.std.proofs.lemmas.List.Sums.{position_or_len_is}
 use Rattle.mesh_in.specs.Line.{is_blank}

@@ -1,4 +1,4 @@
-use Rattle.std.proofs.Common.{◌≡◌, ℕ, ◌<◌, get_or, true, false}
+use Rattle.std.proofs.Common.{◌≡◌, ℕ, ◌<◌, get_or, true}
 use Rattle.mesh_in.specs.Line.{is_blank}
 use Rattle.mesh_in.proofs.words.word_start.Given as goal
 

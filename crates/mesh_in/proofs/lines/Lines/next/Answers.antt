@@ -1,4 +1,4 @@
-use Rattle.std.proofs.Common.{◌≡◌, true, false, Ok, Err, sym, ap, ◌∙◌, ◌+◌}
+use Rattle.std.proofs.Common.{◌≡◌, true, false, Err, sym, ap, ◌∙◌, ◌+◌}
 use Rattle.std.specs.List.{list_all}
 use Rattle.std.specs.Str.Lines.{lines}
 use Rattle.mesh_in.specs.Line.{content, words, is_plain, is_some_word, has_plain_bytes}

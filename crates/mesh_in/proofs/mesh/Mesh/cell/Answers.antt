@@ -1,4 +1,3 @@
-use Rattle.std.proofs.Common.{◌∙◌, ap, sym}
 use Rattle.mesh_in.proofs.StoredLemmas.{cell_inside, cell_at, cell_lawful}
 use Rattle.mesh_in.proofs.mesh.Mesh.cell.Goals as goal
 
