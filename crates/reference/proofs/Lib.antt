@@ -1,3 +1,4 @@
 pub mod Steps
 pub mod Monomials
 pub mod Loops
+pub mod Vertices

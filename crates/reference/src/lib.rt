@@ -4,11 +4,17 @@
 //! Nothing else uses it. Its worked numbers show that the definitions say what they should.
 #![tactic(auto)]
 
+mod coordinates;
 mod fault;
 mod number;
+mod point;
 mod poly;
+mod simplex;
 mod term;
 
+pub use coordinates::barycentric;
 pub use fault::Fault;
+pub use point::Point;
 pub use poly::Poly;
+pub use simplex::volume;
 pub use term::{Axis, Term};
