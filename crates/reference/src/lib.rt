@@ -6,6 +6,8 @@
 
 mod coordinates;
 mod fault;
+mod integral;
+mod local;
 mod number;
 mod point;
 mod poly;
@@ -14,6 +16,8 @@ mod term;
 
 pub use coordinates::barycentric;
 pub use fault::Fault;
+pub use integral::{cell_integral, integral_value, shadow_integral};
+pub use local::local_function;
 pub use point::Point;
 pub use poly::Poly;
 pub use simplex::volume;

@@ -28,6 +28,20 @@ pub struct MovingPoint {
 }
 
 impl Point {
+    ghost use Rattle.calculus.specs.Integral.{shadow_point};
+    ghost use Rattle.reference.specs.PointValue.{point_of};
+
+    /// Its shadow on the line, without y.
+    pub fn on_line(self) -> Point
+        ensures { point_of result ≡ shadow_point 1 (point_of self) }
+    {
+        Point {
+            x: self.x,
+            y: self.z,
+            z: self.z,
+        }
+    }
+
     /// The difference of each coordinate.
     pub fn less(self, a: Point) -> Result<Point, Fault>
         ensures x { IfOk result (λ r. fraction_of r.x ≡ add (fraction_of self.x) (minus_fraction (fraction_of a.x))) }
