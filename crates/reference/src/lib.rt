@@ -13,6 +13,8 @@ mod point;
 mod poly;
 mod simplex;
 mod term;
+#[cfg(test)]
+mod worked;
 
 pub use coordinates::barycentric;
 pub use fault::Fault;
