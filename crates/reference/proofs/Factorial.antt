@@ -1,5 +1,5 @@
 -- The next factorial as a fraction
-use Rattle.std.proofs.Common.{◌≡◌, ℕ, suc, ◌+◌, ◌*◌, sym, ◌∙◌, ap, arith, add-one}
+use Rattle.std.proofs.Common.{◌≡◌, ℕ, suc, ◌+◌, sym, ◌∙◌, ap, arith, add-one}
 use Rattle.algebra.specs.Ring.{natural}
 use Rattle.algebra.specs.IntegerMap.{natural-mul}
 use Rattle.algebra.specs.Fraction.{fractions, mul}

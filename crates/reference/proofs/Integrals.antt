@@ -1,12 +1,12 @@
 -- The integrals as the program adds them up
-use Rattle.std.proofs.Common.{◌≡◌, ℕ, zero, suc, Bool, true, false, refl, sym, ◌∙◌, ap, ap₂, List, [], ◌∷◌, pos}
+use Rattle.std.proofs.Common.{◌≡◌, Bool, true, false, refl, ◌∙◌, ap, [], ◌∷◌, pos}
 use Rattle.algebra.specs.Solver.{at, num, ◌⊕◌, ◌⊖◌, minus as opposite}
 use Rattle.algebra.specs.Sound as Solve
 use Rattle.algebra.specs.Fraction.{Fraction, is_zero_fraction, is_below_zero}
 use Rattle.calculus.specs.Point.{Point}
 use Rattle.calculus.specs.Polynomial.{Polynomial, nil, plus, times, negative, minus, constant, antiderivative, composed, replaced, polynomials, plus-nil}
 use Rattle.calculus.specs.Simplex.{Simplex, dimension, volume, barycentric}
-use Rattle.calculus.specs.Integral.{height, lowered, shadow_integral, cell_integral, oriented}
+use Rattle.calculus.specs.Integral.{height, lowered, shadow_integral, cell_integral}
 use Rattle.calculus.proofs.ByDimension as D
 use Rattle.calculus.proofs.ByDimension.{over_line, over_plane, line_shadow, lowered_one, lowered_two}
 

@@ -1,8 +1,7 @@
 -- A comparison with zero tells whether a fraction is below it
-use Rattle.std.proofs.Common.{◌≡◌, Bool, true, false, refl, sym, ◌∙◌, ap, cond}
-use Rattle.std.specs.declared.cmp.Ordering.{Ordering}
+use Rattle.std.proofs.Common.{◌≡◌, Bool, true, false, refl, ◌∙◌, ap, cond}
 use Rattle.std.specs.declared.cmp.Ordering.TheVariants.{Less, Equal, Greater}
-use Rattle.algebra.specs.Fraction.{Fraction, is_zero_fraction, is_below_zero, zero_fraction}
+use Rattle.algebra.specs.Fraction.{Fraction, is_zero_fraction, is_below_zero}
 use Rattle.algebra.specs.Order.{compare_to_zero}
 use Rattle.algebra.proofs.OrderLaws.{zero_from_test, zero_not_below}
 

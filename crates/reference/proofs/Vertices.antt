@@ -1,5 +1,5 @@
 -- The vertices of a cell with the moving point in place of one of them
-use Rattle.std.proofs.Common.{◌≡◌, ℕ, zero, suc, nat_eq, Bool, true, false, refl, sym, ◌∙◌, ap, ap₂, List, [], ◌∷◌, ◌<◌, arith}
+use Rattle.std.proofs.Common.{◌≡◌, ℕ, zero, suc, nat_eq, false, refl, ap, ap₂, [], ◌∷◌, ◌<◌, arith}
 use Rattle.calculus.specs.Point as P
 use Rattle.calculus.specs.Polynomial.{Polynomial}
 use Rattle.calculus.specs.Simplex.{with_vertex, moving_point, constant_point}

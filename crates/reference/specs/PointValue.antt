@@ -1,5 +1,5 @@
 -- The points that points of the program are
-use Rattle.std.specs.Prelude.{ℕ, zero, suc, Bool, true, false, List, [], ◌∷◌}
+use Rattle.std.specs.Prelude.{Bool, true, false, List, [], ◌∷◌}
 use Rattle.algebra.specs.Fraction.{Fraction}
 use Rattle.ratio.specs.Value.{fraction_of}
 use Rattle.calculus.specs.Point as P

@@ -1,4 +1,4 @@
-use Rattle.std.proofs.Common.{◌∙◌, sym, ap, ap₂, [], ◌∷◌}
+use Rattle.std.proofs.Common.{◌∙◌, sym, ap₂, [], ◌∷◌}
 use Rattle.ratio.specs.Value.{fraction_of}
 use Rattle.calculus.specs.Polynomial.{plus, times, constant}
 use Rattle.calculus.specs.Simplex.{barycentric}

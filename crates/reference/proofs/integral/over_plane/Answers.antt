@@ -1,4 +1,4 @@
-use Rattle.std.proofs.Common.{◌≡◌, ◌∙◌, sym, ap, Bool, true, false, [], ◌∷◌}
+use Rattle.std.proofs.Common.{◌∙◌, sym, ap, [], ◌∷◌}
 use Rattle.algebra.specs.Fraction.{is_zero_fraction}
 use Rattle.calculus.specs.Polynomial.{replaced}
 use Rattle.calculus.specs.Integral.{shadow_integral}
