@@ -5,7 +5,7 @@ use Rattle.algebra.specs.Sound as Solve
 use Rattle.algebra.specs.Fraction.{Fraction, fractions, one_fraction, is_zero_fraction}
 use Rattle.calculus.specs.Point.{Point}
 use Rattle.calculus.specs.Rational.{rationals}
-use Rattle.calculus.specs.Polynomial.{Polynomial, nil, plus, times, negative, minus, constant, coordinate, antiderivative, composed, instead, polynomials, plus-nil}
+use Rattle.calculus.specs.Polynomial.{Polynomial, nil, plus, times, negative, minus, constant, coordinate, antiderivative, composed, instead, replaced, polynomials, plus-nil}
 use Rattle.calculus.specs.Simplex.{Simplex, volume, barycentric}
 use Rattle.calculus.specs.Integral.{shadow_point, height, lowered, over_shadow, shadow_integral}
 use Rattle.calculus.proofs.WrittenOut as W
@@ -43,11 +43,38 @@ shadow_integral_one u w p =
     written : minus (composed (instead 0 (constant w.x)) (antiderivative 0 p)) (composed (instead 0 (constant u.x)) (antiderivative 0 p)) ≡ W.interval fractions rationals u.x w.x p
     written = unfold W.interval composed instead constant plus negative antiderivative in refl
 
+-- an interval: the antiderivative at its ends
+pub interval_ends : (u w : Point Fraction) (p : Polynomial)
+    → shadow_integral 1 (u ∷ w ∷ []) p ≡ minus (replaced 0 (constant w.x) (antiderivative 0 p)) (replaced 0 (constant u.x) (antiderivative 0 p))
+interval_ends u w p =
+    interval_sum u w p
+    ∙ ap₂ (λ f g. plus (plus nil f) (negative g)) (at_point w (antiderivative 0 p)) (at_point u (antiderivative 0 p))
+    ∙ Solve.ring polynomials (composed (instead 0 (constant w.x)) (antiderivative 0 p) ∷ composed (instead 0 (constant u.x)) (antiderivative 0 p) ∷ [])
+    ((num (pos 0) ⊕ at 0) ⊕ opposite (at 1)) (at 0 ⊖ at 1) refl
+
+-- in the last direction nothing is renumbered
+pub lowered_one : (h p : Polynomial) → composed (lowered 1 1 h) p ≡ replaced 1 h p
+lowered_one h p = composed-same (lowered 1 1 h) (instead 1 h) each p
+  where
+    each : (j : ℕ) → lowered 1 1 h j ≡ instead 1 h j
+    each zero = unfold instead coordinate in refl
+    each (suc zero) = unfold instead in refl
+    each (suc (suc j)) = unfold instead coordinate in refl
+
+pub lowered_two : (h p : Polynomial) → composed (lowered 2 2 h) p ≡ replaced 2 h p
+lowered_two h p = composed-same (lowered 2 2 h) (instead 2 h) each p
+  where
+    each : (j : ℕ) → lowered 2 2 h j ≡ instead 2 h j
+    each zero = unfold instead coordinate in refl
+    each (suc zero) = unfold instead coordinate in refl
+    each (suc (suc zero)) = unfold instead in refl
+    each (suc (suc (suc j))) = unfold instead coordinate in refl
+
 -- ---- triangles
-abbrev line_shadow : Point Fraction → Point Fraction → Simplex
+abbrev pub line_shadow : Point Fraction → Point Fraction → Simplex
 line_shadow u w = shadow_point 1 u ∷ shadow_point 1 w ∷ []
 
-abbrev over_line : Point Fraction → Point Fraction → Polynomial → Polynomial
+abbrev pub over_line : Point Fraction → Point Fraction → Polynomial → Polynomial
 over_line u w q = over_shadow (λ v p. shadow_integral 1 v p) 1 1 (u ∷ w ∷ []) q
 
 line_height : (u w : Point Fraction) → height 1 (u ∷ w ∷ []) ≡ W.height fractions rationals u w
@@ -73,7 +100,7 @@ at_line u w q =
     written : chosen (is_zero_fraction (volume (line_shadow u w))) (W.interval fractions rationals u.x w.x (composed (instead 1 (W.height fractions rationals u w)) q)) ≡ W.facet fractions rationals u w q
     written = unfold W.facet volume nil composed instead in refl
 
-triangle_sum : (a b c : Point Fraction) (p : Polynomial)
+pub triangle_sum : (a b c : Point Fraction) (p : Polynomial)
     → shadow_integral 2 (a ∷ b ∷ c ∷ []) p
     ≡ plus (plus (plus nil (negative (over_line b c (antiderivative 1 p)))) (over_line a c (antiderivative 1 p))) (negative (over_line a b (antiderivative 1 p)))
 unfolding shadow_integral
@@ -94,10 +121,10 @@ shadow_integral_two a b c p =
     written = unfold W.triangle plus negative antiderivative in refl
 
 -- ---- tetrahedra
-abbrev plane_shadow : Point Fraction → Point Fraction → Point Fraction → Simplex
+abbrev pub plane_shadow : Point Fraction → Point Fraction → Point Fraction → Simplex
 plane_shadow u v w = u ∷ v ∷ w ∷ []
 
-abbrev over_plane : Point Fraction → Point Fraction → Point Fraction → Polynomial → Polynomial
+abbrev pub over_plane : Point Fraction → Point Fraction → Point Fraction → Polynomial → Polynomial
 over_plane u v w q = over_shadow (λ v p. shadow_integral 2 v p) 2 2 (u ∷ v ∷ w ∷ []) q
 
 plane_height : (u v w : Point Fraction) → height 2 (u ∷ v ∷ w ∷ []) ≡ W.height_of_three fractions rationals u v w
@@ -128,7 +155,7 @@ at_plane u v w q =
     written : chosen (is_zero_fraction (volume (plane_shadow u v w))) (W.triangle fractions rationals u v w (composed (instead 2 (W.height_of_three fractions rationals u v w)) q)) ≡ W.facet_of_three fractions rationals u v w q
     written = unfold W.facet_of_three volume nil composed instead in refl
 
-tetrahedron_sum : (a b c e : Point Fraction) (p : Polynomial)
+pub tetrahedron_sum : (a b c e : Point Fraction) (p : Polynomial)
     → shadow_integral 3 (a ∷ b ∷ c ∷ e ∷ []) p
     ≡ plus (plus (plus (plus nil (over_plane b c e (antiderivative 2 p))) (negative (over_plane a c e (antiderivative 2 p)))) (over_plane a b e (antiderivative 2 p))) (negative (over_plane a b c (antiderivative 2 p)))
 unfolding shadow_integral

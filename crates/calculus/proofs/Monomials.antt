@@ -1,5 +1,5 @@
 -- Terms with written-out exponents under the operations; exponents are compared at each variable
-use Rattle.std.proofs.Common.{◌≡◌, ℕ, zero, suc, ◌+◌, ◌-◌, ◌*◌, refl, sym, ◌∙◌, ap, ap₂, List, [], ◌∷◌, get_or, arith}
+use Rattle.std.proofs.Common.{◌≡◌, ℕ, zero, suc, ◌+◌, ◌-◌, ◌*◌, refl, sym, ◌∙◌, ap, ap₂, List, get_or, arith}
 use Rattle.algebra.specs.Ring.{natural, additive}
 use Rattle.algebra.specs.RingLaws as L
 use Rattle.algebra.specs.Fraction.{Fraction, fractions, zero_fraction, one_fraction, add, mul, mul_one, inverse, negative as minus_fraction}
@@ -9,11 +9,10 @@ use Rattle.calculus.specs.Powers as W
 use Rattle.calculus.specs.Powers.{Powers, none, powers, power_of, times as times_powers, variable, delta, powers_of}
 use Rattle.calculus.specs.OverRing as G
 use Rattle.calculus.specs.Rational.{rationals}
-use Rattle.calculus.specs.Polynomial.{Polynomial, nil, one, plus, times, negative, constant, coordinate, derivative, antiderivative, monomial, power, polynomials, times_comm}
+use Rattle.calculus.specs.Polynomial.{nil, one, plus, times, negative, constant, coordinate, derivative, antiderivative, monomial, power, polynomials}
 use Rattle.calculus.proofs.OverRingLaws as O
 use Rattle.calculus.proofs.Antiderivative as J
 use Rattle.calculus.proofs.ReadingLaws.{power_of-powers_of}
-use Rattle.calculus.proofs.PolynomialLaws.{constant-mul}
 
 -- the exponents es say e
 abbrev pub Spells : List ℕ → Powers → Type 0

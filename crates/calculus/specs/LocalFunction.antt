@@ -1,8 +1,8 @@
 -- The local functions of a Lagrange element, by Silvester's formula
-use Rattle.std.specs.Prelude.{ℕ, zero, suc, ◌+◌, ◌*◌, List, [], ◌∷◌}
+use Rattle.std.specs.Prelude.{ℕ, zero, suc, ◌+◌, ◌*◌, Bool, true, false, nat_eq, List, [], ◌∷◌}
 use Rattle.algebra.specs.Ring.{natural}
 use Rattle.algebra.specs.Fraction.{Fraction, fractions, mul, inverse}
-use Rattle.calculus.specs.Polynomial.{Polynomial, one, times, minus, constant, value, whole}
+use Rattle.calculus.specs.Polynomial.{Polynomial, nil, one, times, minus, constant, value, whole}
 use Rattle.calculus.specs.Simplex.{Simplex, barycentric, affine}
 
 abbrev pub factorial : ℕ → ℕ
@@ -44,3 +44,25 @@ node_point weights i = mul (natural fractions (weight_at weights (suc i))) (inve
 -- the node's point in a cell: the image of that on the reference cell
 abbrev pub node_in : Simplex → List ℕ → ℕ → Fraction
 node_in v weights i = value (node_point weights) (affine v i)
+
+-- ---- labels: pairs of a vertex number and its weight, where the cell's vertices are numbered too
+abbrev pub label_weight : List (ℕ × ℕ) → ℕ → ℕ
+label_weight [] n = 0
+label_weight (p ∷ label) n = elim (nat_eq p.0 n) [ true ↦ p.1 | false ↦ label_weight label n ]
+
+abbrev pub is_vertex_of : List ℕ → ℕ → Bool
+is_vertex_of [] n = false
+is_vertex_of (m ∷ numbers) n = elim (nat_eq m n) [ true ↦ true | false ↦ is_vertex_of numbers n ]
+
+-- each vertex of the label is one of the cell's
+abbrev pub lies_on : List (ℕ × ℕ) → List ℕ → Bool
+lies_on [] numbers = true
+lies_on (p ∷ label) numbers = elim (is_vertex_of numbers p.0) [ true ↦ lies_on label numbers | false ↦ false ]
+
+abbrev pub weights_of : List (ℕ × ℕ) → List ℕ → List ℕ
+weights_of label [] = []
+weights_of label (n ∷ numbers) = label_weight label n ∷ weights_of label numbers
+
+-- the local function of a label on a cell; it is 0 where a vertex of the label isn't the cell's
+unfoldable pub label_function : List (ℕ × ℕ) → List ℕ → Simplex → Polynomial
+label_function label numbers v = elim (lies_on label numbers) [ true ↦ local_function v (weights_of label numbers) | false ↦ nil ]

@@ -5,7 +5,7 @@ use Rattle.algebra.specs.RingLaws as L
 use Rattle.algebra.specs.GroupLaws.{zero_from_double}
 use Rattle.algebra.specs.Fraction.{Fraction, fractions, zero_fraction, add, add_zero, mul}
 use Rattle.ratio.specs.Value.{fraction_of}
-use Rattle.calculus.specs.Polynomial.{Polynomial, nil, plus, times, coordinate, constant, monomial, power, value, constant_term, polynomials, plus_assoc, plus-nil, times-plus}
+use Rattle.calculus.specs.Polynomial.{Polynomial, nil, plus, times, coordinate, monomial, power, constant_term, polynomials, plus_assoc, plus-nil, times-plus}
 use Rattle.calculus.proofs.PolynomialLaws.{value-plus, value-times, value-constant, value-coordinate, constant-zero}
 use Rattle.reference.specs.declared.term.Term.{Term}
 use Rattle.reference.specs.TermValue.{term_of, sum_of}

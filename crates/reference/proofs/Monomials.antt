@@ -3,7 +3,7 @@ use Rattle.std.proofs.Common.{◌≡◌, ℕ, zero, suc, ◌+◌, ◌*◌, refl,
 use Rattle.algebra.specs.Ring.{natural}
 use Rattle.algebra.specs.Fraction.{Fraction, fractions, one_fraction, mul, inverse}
 use Rattle.calculus.specs.Powers.{delta}
-use Rattle.calculus.specs.Polynomial.{Polynomial, plus, times, nil, constant, coordinate, antiderivative, monomial, power, plus_assoc, plus_comm, plus-nil}
+use Rattle.calculus.specs.Polynomial.{Polynomial, plus, times, nil, constant, coordinate, antiderivative, monomial, power, plus_assoc, plus-nil}
 use Rattle.calculus.proofs.Monomials.{monomial-constant, monomial-coordinate, monomial-times, monomial-split, monomial-antiderivative}
 use Rattle.algebra.specs.RingLaws as L
 use Rattle.calculus.specs.Polynomial.{polynomials, composed, instead, replaced}

@@ -1,8 +1,8 @@
 -- What a step on fractions answers, if anything, is the exact value
-use Rattle.std.proofs.Common.{◌≡◌, ℕ, zero, suc, pos, Bool, true, false, Option, None, Some, Result, Ok, Err, IfOk, refl, sym, ◌∙◌, ap, cond}
+use Rattle.std.proofs.Common.{◌≡◌, ℕ, pos, Bool, true, false, Option, None, Some, Result, Ok, Err, IfOk, refl, sym, ◌∙◌, ap, cond}
 use Rattle.std.specs.Result.{result_ok}
 use Rattle.algebra.specs.Ring.{natural}
-use Rattle.algebra.specs.Fraction.{Fraction, fractions, add, mul, mul_one, mul_comm, negative, inverse, one_fraction, is_zero_fraction, of_integer}
+use Rattle.algebra.specs.Fraction.{Fraction, fractions, add, mul, mul_one, negative, inverse, one_fraction, is_zero_fraction, of_integer}
 use Rattle.algebra.specs.Steps as S
 use Rattle.algebra.proofs.WholeLaws.{of_integer-one}
 use Rattle.ratio.specs.Value.{fraction_of, valued}

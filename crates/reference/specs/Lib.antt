@@ -1,2 +1,3 @@
 pub mod TermValue
 pub mod PolyValue
+pub mod PointValue

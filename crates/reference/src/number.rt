@@ -2,11 +2,12 @@
 
 ghost use Rattle.std.specs.Prelude.{◌≡◌, ◌+◌, IfOk};
 ghost use Rattle.algebra.specs.Ring.{natural};
-ghost use Rattle.algebra.specs.Fraction.{fractions, add, mul, negative, inverse};
+ghost use Rattle.algebra.specs.Fraction.{fractions, add, mul, negative, inverse, is_below_zero};
 ghost use Rattle.ratio.specs.Value.{fraction_of};
 
 use crate::fault::Fault;
 use ratio::Ratio;
+use std::cmp::Ordering;
 
 pub fn sum(a: Ratio, b: Ratio) -> Result<Ratio, Fault>
     ensures { IfOk result (λ r. fraction_of r ≡ add (fraction_of a) (fraction_of b)) }
@@ -44,4 +45,14 @@ pub fn power_sum(a: u32, b: u32) -> Result<u32, Fault>
     ensures { IfOk result (λ n. n ≡ a + b) }
 {
     a.checked_add(b).ok_or(Fault::Range)
+}
+
+pub fn is_negative(a: Ratio) -> bool
+    ensures { result ≡ is_below_zero (fraction_of a) }
+{
+    match a.cmp_zero() {
+        Ordering::Less => true,
+        Ordering::Equal => false,
+        Ordering::Greater => false,
+    }
 }

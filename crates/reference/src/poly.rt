@@ -1,7 +1,7 @@
 // Polynomials as lists of terms, in no order.
 
 ghost use Rattle.std.specs.Prelude.{◌≡◌, IfOk, OnOk};
-ghost use Rattle.calculus.specs.Polynomial.{Polynomial, nil, plus, times, negative, constant, coordinate, antiderivative, replaced as with_replaced, power as raised_to, constant_term as term_without_variables};
+ghost use Rattle.calculus.specs.Polynomial.{Polynomial, nil, one, plus, times, negative, constant, coordinate, antiderivative, replaced as with_replaced, power as raised_to, constant_term as term_without_variables};
 ghost use Rattle.ratio.specs.Value.{fraction_of};
 ghost use Rattle.reference.specs.TermValue.{term_of, sum_of, number_of};
 
@@ -52,6 +52,13 @@ impl Poly {
         Poly::from_term(alloc, Term::constant(c))
     }
 
+    pub fn one(alloc: Global) -> Result<Poly, Fault>
+        ensures { IfOk result (λ r. value_of r ≡ one) }
+    {
+        let one = Poly::constant(alloc, Ratio::one())?;
+        Ok(one)
+    }
+
     pub fn coordinate(alloc: Global, axis: Axis) -> Result<Poly, Fault>
         ensures { IfOk result (λ r. value_of r ≡ coordinate (number_of axis)) }
     {
@@ -95,7 +102,7 @@ impl Poly {
     pub fn power(&self, alloc: Global, n: u32) -> Result<Poly, Fault>
         ensures { IfOk result (λ r. value_of r ≡ raised_to (value_of self.now) n) }
     {
-        let mut out = Poly::constant(alloc, Ratio::one())?;
+        let mut out = Poly::one(alloc)?;
         for _i in 0..n {
             out = self.product(alloc, &out)?;
         }

@@ -1,6 +1,6 @@
 use Rattle.calculus.specs.Polynomial.{antiderivative}
 use Rattle.calculus.proofs.Linear.{antiderivative-plus}
-use Rattle.reference.specs.TermValue.{sum_of, number_of}
+use Rattle.reference.specs.TermValue.{number_of}
 use Rattle.reference.proofs.Loops.{begun, pushed}
 use Rattle.reference.proofs.poly.Poly.antiderivative.Goals as goal
 

@@ -1,6 +1,5 @@
-use Rattle.std.proofs.Common.{◌≡◌, ◌∙◌, sym, ap}
+use Rattle.std.proofs.Common.{◌∙◌, sym, ap}
 use Rattle.ratio.specs.Value.{fraction_of}
-use Rattle.calculus.specs.Polynomial.{constant_term}
 use Rattle.reference.proofs.Loops.{IsConstant, constant_term_of_nothing, counted, passed_over, with_none, with_one}
 use Rattle.reference.proofs.poly.Poly.constant_term.Goals as goal
 use Rattle.reference.proofs.poly.Poly.constant_term.Goals.{then-is_constant+in_ok-total, else-is_constant}

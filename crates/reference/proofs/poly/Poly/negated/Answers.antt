@@ -1,6 +1,5 @@
 use Rattle.calculus.specs.Polynomial.{negative}
 use Rattle.calculus.proofs.Linear.{negative-plus}
-use Rattle.reference.specs.TermValue.{sum_of, number_of}
 use Rattle.reference.proofs.Loops.{begun, pushed}
 use Rattle.reference.proofs.poly.Poly.negated.Goals as goal
 

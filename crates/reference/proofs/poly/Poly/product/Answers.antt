@@ -1,7 +1,7 @@
 use Rattle.std.proofs.Common.{◌∙◌, ap}
 use Rattle.algebra.specs.RingLaws.{add-mul}
 use Rattle.calculus.specs.Polynomial.{plus, times, polynomials}
-use Rattle.reference.specs.TermValue.{term_of, sum_of, number_of}
+use Rattle.reference.specs.TermValue.{term_of, sum_of}
 use Rattle.reference.proofs.Loops.{begun, grown}
 use Rattle.reference.proofs.poly.Poly.product.Goals as goal
 

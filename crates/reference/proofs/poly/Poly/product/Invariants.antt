@@ -1,6 +1,6 @@
 use Rattle.std.proofs.Common.{◌≡◌, take}
-use Rattle.calculus.specs.Polynomial.{negative, times, antiderivative, replaced}
-use Rattle.reference.specs.TermValue.{sum_of, number_of}
+use Rattle.calculus.specs.Polynomial.{times}
+use Rattle.reference.specs.TermValue.{sum_of}
 use Rattle.reference.proofs.poly.Poly.product.Given as goal
 
 abbrev pub invariant-loop-t : goal.invariant-loop-t

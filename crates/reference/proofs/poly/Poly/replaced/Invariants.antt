@@ -1,5 +1,5 @@
 use Rattle.std.proofs.Common.{◌≡◌, take}
-use Rattle.calculus.specs.Polynomial.{negative, times, antiderivative, replaced}
+use Rattle.calculus.specs.Polynomial.{replaced}
 use Rattle.reference.specs.TermValue.{sum_of, number_of}
 use Rattle.reference.proofs.poly.Poly.replaced.Given as goal
 

@@ -1,4 +1,4 @@
-use Rattle.std.proofs.Common.{◌≡◌, ◌+◌, ap, ap₂, ◌∙◌, [], ◌∷◌}
+use Rattle.std.proofs.Common.{ap₂, ◌∙◌, [], ◌∷◌}
 use Rattle.calculus.specs.Polynomial.{monomial}
 use Rattle.reference.proofs.Monomials.{product_term_of}
 use Rattle.reference.proofs.term.Term.product.Goals as goal

@@ -1,6 +1,6 @@
-use Rattle.std.proofs.Common.{◌≡◌, ◌∙◌, sym, ap, subst, ℕ, [], ◌∷◌}
+use Rattle.std.proofs.Common.{◌∙◌, ap, [], ◌∷◌}
 use Rattle.ratio.specs.Value.{fraction_of}
-use Rattle.calculus.specs.Polynomial.{Polynomial, times, coordinate, power, monomial, replaced}
+use Rattle.calculus.specs.Polynomial.{times, coordinate, power, monomial, replaced}
 use Rattle.reference.specs.declared.term.Axis.TheVariants.{X, Y, Z}
 use Rattle.reference.specs.TermValue.{number_of}
 use Rattle.reference.proofs.Monomials.{x_split, y_split, z_split, x_without, y_without, z_without, at_axis}
