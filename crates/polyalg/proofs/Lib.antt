@@ -5,3 +5,4 @@ pub mod StepLaws
 pub mod ScaledLaws
 pub mod DerivedLaws
 pub mod MergedLaws
+pub mod IntegralLaws

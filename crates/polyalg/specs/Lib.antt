@@ -2,3 +2,4 @@ pub mod Exponents
 pub mod Terms
 pub mod Range
 pub mod Small
+pub mod ReferenceIntegral
