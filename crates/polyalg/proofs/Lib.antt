@@ -6,3 +6,6 @@ pub mod ScaledLaws
 pub mod DerivedLaws
 pub mod MergedLaws
 pub mod IntegralLaws
+pub mod ZeroSum
+pub mod RowLaws
+pub mod ProductLaws

@@ -1,10 +1,11 @@
 -- Lists of terms that are there, and terms that are left
-use Rattle.std.proofs.Common.{◌≡◌, ℕ, ◌+◌, ◌<◌, Bool, true, false, if◌then◌else◌, List, [], ◌∷◌, ◌++◌, refl, sym, ap, ◌∙◌, subst, arith, append_assoc}
+use Rattle.std.proofs.Common.{◌≤◌, max, ◌≡◌, ℕ, ◌+◌, ◌<◌, Bool, true, false, if◌then◌else◌, List, [], ◌∷◌, ◌++◌, refl, sym, ap, ◌∙◌, subst, arith, append_assoc}
 use Rattle.algebra.specs.Fraction.{is_zero_fraction}
 use Rattle.ratio.specs.Value.{fraction_of}
 use Rattle.calculus.specs.Polynomial.{plus, polynomials, plus-nil, plus_assoc}
 use Rattle.algebra.specs.RingLaws as L
-use Rattle.polyalg.specs.Exponents.{key}
+use Rattle.polyalg.specs.Exponents.{key, total}
+use Rattle.polyalg.specs.Products.{degree_of}
 use Rattle.polyalg.specs.Terms.{term_value, value_of, AreAbove, Rising, keys_and, IsTerm, AreTerms, kept}
 use Rattle.polyalg.specs.declared.term.Term.{Term}
 use Rattle.polyalg.proofs.MonomialLaws.{monomial_of_zero}
@@ -94,3 +95,14 @@ rising_kept k ts t n ns e r = go (is_zero_fraction (fraction_of t.c)) where
       subst Rising
       (ap (λ m. keys_and k ts ++ m ∷ ns) (sym e) ∙ sym (append_assoc (keys_and k ts) ((key t.e + k) ∷ []) ns) ∙ ap (λ ks. ks ++ ns) (sym (keys-append k ts (t ∷ []))))
       r
+
+-- ---- degrees
+pub degree-append : (ts us : List Term) → degree_of (ts ++ us) ≡ max (degree_of ts) (degree_of us)
+degree-append [] us = omega arith
+degree-append (t ∷ ts) us = omega (arith, degree-append ts us)
+
+pub degree_kept : (ts : List Term) (t : Term) → degree_of (kept ts t) ≤ max (degree_of ts) (total t.e)
+degree_kept ts t = go (is_zero_fraction (fraction_of t.c)) where
+  go : (b : Bool) → degree_of (if b then ts else ts ++ t ∷ []) ≤ max (degree_of ts) (total t.e)
+  go true = omega arith
+  go false = omega (arith, degree-append ts (t ∷ []))

@@ -3,3 +3,5 @@ pub mod Terms
 pub mod Range
 pub mod Small
 pub mod ReferenceIntegral
+pub mod Products
+pub mod Row

@@ -8,6 +8,7 @@
 mod fault;
 mod integral;
 mod poly;
+mod product;
 mod scaled;
 mod sum;
 mod term;

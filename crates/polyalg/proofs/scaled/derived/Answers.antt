@@ -8,7 +8,7 @@ use Rattle.polyalg.proofs.MonomialLaws.{exponent_reads}
 use Rattle.std.proofs.lemmas.List.{drop_all}
 use Rattle.polyalg.proofs.StepLaws.{answer_of, no_answer_of}
 use Rattle.polyalg.proofs.ScaledLaws.{first_left, first_term}
-use Rattle.polyalg.proofs.DerivedLaws.{derived_begin, derived_skip, derived_step, derived_fails, derived_value, derived_passes, derived_lawful, lowered_at}
+use Rattle.polyalg.proofs.DerivedLaws.{derived_begin, derived_skip, derived_step, derived_fails, derived_value, derived_passes, derived_lawful, derived_degree, lowered_at}
 use Rattle.polyalg.proofs.scaled.derived.Goals as goal
 
 pub loop-term-init : goal.loop-term-init
@@ -49,3 +49,6 @@ returns-clause-range c = derived_passes c.args.k _ _ c.args.terms.now (drop_all 
 
 pub returns-clause-lawful : goal.returns-clause-lawful
 returns-clause-lawful c = derived_lawful c.args.k _ _ c.args.terms.now c.loop-term.invariant
+
+pub returns-clause-degree : goal.returns-clause-degree
+returns-clause-degree c = derived_degree c.args.k _ _ c.args.terms.now c.loop-term.invariant

@@ -1,7 +1,7 @@
 use Rattle.ratio.specs.Value.{fraction_of}
 use Rattle.std.proofs.lemmas.List.{drop_all}
 use Rattle.polyalg.proofs.StepLaws.{answer_of, no_answer_of}
-use Rattle.polyalg.proofs.ScaledLaws.{first_left, scaled_begin, scaled_step, scaled_fails, scaled_value, scaled_passes, scaled_lawful}
+use Rattle.polyalg.proofs.ScaledLaws.{first_left, scaled_begin, scaled_step, scaled_fails, scaled_value, scaled_passes, scaled_lawful, scaled_degree}
 use Rattle.polyalg.proofs.scaled.scaled.Goals as goal
 
 pub loop-term-init : goal.loop-term-init
@@ -28,3 +28,6 @@ returns-clause-range c = scaled_passes (fraction_of c.args.c) _ _ c.args.terms.n
 
 pub returns-clause-lawful : goal.returns-clause-lawful
 returns-clause-lawful c = scaled_lawful (fraction_of c.args.c) _ _ c.args.terms.now c.loop-term.invariant
+
+pub returns-clause-degree : goal.returns-clause-degree
+returns-clause-degree c = scaled_degree (fraction_of c.args.c) _ _ c.args.terms.now c.loop-term.invariant
