@@ -1,21 +1,22 @@
 -- Derivatives, term by term
-use Rattle.std.proofs.Common.{◌≡◌, ℕ, zero, suc, ◌+◌, ◌-◌, ◌*◌, ◌^◌, ◌<◌, ◌≤◌, true, false, ◌||◌, ◌&&◌, nat_lt, is_none, Option, Some, None, List, [], ◌∷◌, ◌++◌, refl, sym, ap, ap₂, ◌∙◌, subst, arith, length}
+use Rattle.std.proofs.Common.{max, ◌≡◌, ℕ, zero, suc, ◌+◌, ◌-◌, ◌^◌, ◌<◌, ◌≤◌, true, false, ◌||◌, ◌&&◌, nat_lt, is_none, Some, None, List, [], ◌∷◌, ◌++◌, refl, sym, ap, ◌∙◌, subst, arith, length}
 use Rattle.std.proofs.Math.ListN.{set}
 use Rattle.algebra.specs.Ring.{natural}
-use Rattle.algebra.specs.Fraction.{Fraction, fractions, mul, mul_comm}
+use Rattle.algebra.specs.Fraction.{fractions, mul, mul_comm}
 use Rattle.algebra.specs.RingLaws as L
 use Rattle.algebra.specs.Steps.{product}
 use Rattle.ratio.specs.declared.reduced.Ratio.{Ratio}
 use Rattle.ratio.specs.Value.{fraction_of}
-use Rattle.calculus.specs.Polynomial.{Polynomial, nil, plus, derivative, monomial, polynomials, plus_assoc, plus-nil}
+use Rattle.calculus.specs.Polynomial.{nil, plus, derivative, monomial, polynomials, plus_assoc, plus-nil}
 use Rattle.calculus.specs.Powers.{delta}
 use Rattle.calculus.proofs.PolynomialLaws.{derivative-plus, derivative-constant, constant-zero}
 use Rattle.polyalg.specs.Exponents.{exponent, key, total}
-use Rattle.polyalg.specs.Terms.{term_value, value_of, Rising, keys_and, IsTerm, AreTerms, IsPoly, kept}
+use Rattle.polyalg.specs.Terms.{term_value, value_of, Rising, keys_and, AreTerms, IsPoly, kept}
+use Rattle.polyalg.specs.Products.{degree_of}
 use Rattle.polyalg.specs.Range.{derivative_passes}
 use Rattle.polyalg.specs.declared.term.Term.{Term}
 use Rattle.polyalg.proofs.MonomialLaws.{monomial-derivative, monomial-zero}
-use Rattle.polyalg.proofs.SortedLaws.{value_of-kept, terms_kept, rising_kept, rising_skip, rising_front, unraised}
+use Rattle.polyalg.proofs.SortedLaws.{value_of-kept, terms_kept, degree_kept, rising_kept, rising_skip, rising_front, unraised}
 use Rattle.polyalg.proofs.StepLaws.{product_is, some_is_not_none, none_is_none}
 
 -- ---- one less of one exponent
@@ -79,11 +80,12 @@ pub record Derived (k : ℕ) (out left all : List Term) : Type 0 where
   pub rising : Rising (keys_and (unit_of k) out ++ keys_and 0 left)
   pub there : AreTerms out
   pub remain : AreTerms left
+  pub degree : max (degree_of out) (degree_of left) ≤ degree_of all
 
 pub derived_begin : (k : ℕ) (out all : List Term) → out ≡ [] → IsPoly all → Derived k out all all
 derived_begin k out all e p =
     subst (λ us. Derived k us all all) (sym e)
-        (record { value = L.zero-add polynomials (derivative k (value_of all)); passes = refl; rising = p.sorted; there = tt; remain = p.terms })
+    (record { value = L.zero-add polynomials (derivative k (value_of all)); passes = refl; rising = p.sorted; there = tt; remain = p.terms; degree = omega arith })
 
 derivative-nil : (k : ℕ) → derivative k nil ≡ nil
 derivative-nil k = ap (derivative k) (sym constant-zero) ∙ derivative-constant k _
@@ -115,12 +117,13 @@ derived_skip k out left all rest t is h s =
     record {
       value =
           ap (plus (value_of out))
-              (sym (split k t rest left is ∙ ap (λ p. plus p (derivative k (value_of rest))) (vanishes k t h) ∙ L.zero-add polynomials (derivative k (value_of rest))))
+          (sym (split k t rest left is ∙ ap (λ p. plus p (derivative k (value_of rest))) (vanishes k t h) ∙ L.zero-add polynomials (derivative k (value_of rest))))
           ∙ s.value;
       passes = sym (test_first k t rest h) ∙ ap (derivative_passes k) (sym is) ∙ s.passes;
       rising = rising_skip (keys_and (unit_of k) out) (key t.e + 0) (keys_and 0 rest) (subst (λ ts. Rising (keys_and (unit_of k) out ++ keys_and 0 ts)) is s.rising);
       there = s.there;
       remain = r.1;
+      degree = omega (arith, s.degree, ap degree_of is);
     }
 
 derived_term : (k n : ℕ) (t : Term) (g : List ℕ) (x : Ratio) → exponent t.e k ≡ n → Lowered k t.e g → product (fraction_of t.c) (natural fractions n) ≡ Some (fraction_of x)
@@ -128,7 +131,7 @@ derived_term : (k n : ℕ) (t : Term) (g : List ℕ) (x : Ratio) → exponent t.
 derived_term k n t g x e l h =
     monomial-derivative k (fraction_of t.c) t.e g l.exponents
     ∙ ap (λ c. monomial c g)
-        (ap (λ m. mul (natural fractions m) (fraction_of t.c)) e ∙ mul_comm (natural fractions n) (fraction_of t.c) ∙ sym (product_is (fraction_of t.c) (natural fractions n) (fraction_of x) h))
+    (ap (λ m. mul (natural fractions m) (fraction_of t.c)) e ∙ mul_comm (natural fractions n) (fraction_of t.c) ∙ sym (product_is (fraction_of t.c) (natural fractions n) (fraction_of x) h))
 
 positive_test : (n : ℕ) → nat_lt 0 (suc n) ≡ true
 positive_test n = grind arith
@@ -156,9 +159,10 @@ derived_step k n out left all next rest t g x is e l h m s =
           ∙ ap (derivative_passes k) (sym is) ∙ s.passes;
       rising =
           subst (λ ts. Rising (keys_and (unit_of k) ts ++ keys_and 0 rest)) (sym m)
-              (rising_kept (unit_of k) out u (key t.e + 0) (keys_and 0 rest) l.key_is (subst (λ ts. Rising (keys_and (unit_of k) out ++ keys_and 0 ts)) is s.rising));
+          (rising_kept (unit_of k) out u (key t.e + 0) (keys_and 0 rest) l.key_is (subst (λ ts. Rising (keys_and (unit_of k) out ++ keys_and 0 ts)) is s.rising));
       there = subst AreTerms (sym m) (terms_kept out u s.there (λ z. record { three = l.three; small = omega (arith, l.total_is, r.0.small); some = z }));
       remain = r.1;
+      degree = omega (arith, s.degree, ap degree_of m, degree_kept out u, l.total_is, ap degree_of is);
     }
 
 pub derived_fails : (k n : ℕ) (out left all rest : List Term) (t : Term) → left ≡ t ∷ rest → exponent t.e k ≡ suc n
@@ -177,3 +181,6 @@ derived_passes k out left all e s = sym s.passes ∙ ap (derivative_passes k) e
 pub derived_lawful : (k : ℕ) (out left all : List Term) → Derived k out left all → IsPoly out
 derived_lawful k out left all s =
     record { sorted = unraised (unit_of k) out (rising_front (keys_and (unit_of k) out) (keys_and 0 left) s.rising); terms = s.there }
+
+pub derived_degree : (k : ℕ) (out left all : List Term) → Derived k out left all → degree_of out ≤ degree_of all
+derived_degree k out left all s = omega (arith, s.degree)

@@ -5,3 +5,7 @@ pub mod StepLaws
 pub mod ScaledLaws
 pub mod DerivedLaws
 pub mod MergedLaws
+pub mod IntegralLaws
+pub mod ZeroSum
+pub mod RowLaws
+pub mod ProductLaws

@@ -1,15 +1,14 @@
 -- Single terms as polynomials
-use Rattle.std.proofs.Common.{◌≡◌, ℕ, zero, suc, ◌+◌, ◌-◌, ◌*◌, ◌≤◌, List, [], ◌∷◌, length, get_or, refl, sym, ap, ap₂, ◌∙◌, arith, true}
+use Rattle.std.proofs.Common.{◌≡◌, ℕ, zero, suc, ◌+◌, ◌-◌, List, [], ◌∷◌, get_or, refl, sym, ap, ap₂, ◌∙◌, true}
 use Rattle.algebra.specs.Ring.{additive, natural}
 use Rattle.algebra.specs.Fraction.{Fraction, fractions, zero_fraction, one_fraction, add, mul, is_zero_fraction}
 use Rattle.algebra.proofs.OrderLaws.{zero_from_test}
-use Rattle.calculus.specs.Polynomial.{Polynomial, nil, one, plus, times, constant, coordinate, derivative, monomial}
+use Rattle.calculus.specs.Polynomial.{nil, plus, times, constant, coordinate, derivative, monomial}
 use Rattle.calculus.specs.Free as F
 use Rattle.calculus.specs.Product as P
 use Rattle.calculus.specs.Powers.{Powers, none, powers, power_of, powers_of, same_powers, variable, lower, delta, power_of-lower, power_of-variable, power_of-times}
 use Rattle.calculus.specs.Powers as W
 use Rattle.calculus.proofs.OverRingLaws as O
-use Rattle.calculus.proofs.ReadingLaws.{power_of-powers_of}
 use Rattle.polyalg.specs.Exponents.{exponent}
 
 pub exponent_is : (e : List ℕ) (i : ℕ) → power_of (powers_of e) i ≡ exponent e i
@@ -55,8 +54,8 @@ unfolding monomial times
 monomial-times c d e f g h =
     P.term-mul-term fractions powers c (powers_of e) d (powers_of f)
     ∙ ap (λ p. P.term fractions powers (mul c d) p)
-        (same_powers (W.times (powers_of e) (powers_of f)) (powers_of g)
-            (λ i. power_of-times (powers_of e) (powers_of f) i ∙ ap₂ ◌+◌ (exponent_is e i) (exponent_is f i) ∙ sym (h i) ∙ sym (exponent_is g i)))
+    (same_powers (W.times (powers_of e) (powers_of f)) (powers_of g)
+    (λ i. power_of-times (powers_of e) (powers_of f) i ∙ ap₂ ◌+◌ (exponent_is e i) (exponent_is f i) ∙ sym (h i) ∙ sym (exponent_is g i)))
 
 -- the derivative in variable k, where g has one less of it
 pub monomial-derivative : (k : ℕ) (c : Fraction) (e g : List ℕ) → ((i : ℕ) → exponent g i ≡ exponent e i - delta k i)
@@ -65,8 +64,8 @@ unfolding monomial derivative
 monomial-derivative k c e g h =
     O.derivative-monomial fractions k c (powers_of e)
     ∙ ap₂ (λ n p. P.term fractions powers (mul (natural fractions n) c) p) (exponent_is e k)
-        (same_powers (lower k (powers_of e)) (powers_of g)
-            (λ i. power_of-lower k (powers_of e) i ∙ ap (λ n. n - delta k i) (exponent_is e i) ∙ sym (h i) ∙ sym (exponent_is g i)))
+    (same_powers (lower k (powers_of e)) (powers_of g)
+    (λ i. power_of-lower k (powers_of e) i ∙ ap (λ n. n - delta k i) (exponent_is e i) ∙ sym (h i) ∙ sym (exponent_is g i)))
 
 pub coordinate_monomial : (k : ℕ) (c : Fraction) (e f : List ℕ) (n : ℕ) → c ≡ one_fraction → e ≡ f → monomial one_fraction f ≡ coordinate n → k ≡ n → monomial c e ≡ coordinate k
 coordinate_monomial k c e f n h g m i = ap₂ monomial h g ∙ m ∙ ap coordinate (sym i)

@@ -1,18 +1,19 @@
 -- Multiples, term by term
-use Rattle.std.proofs.Common.{◌≡◌, ℕ, ◌+◌, ◌-◌, ◌<◌, true, false, ◌||◌, is_none, Option, Some, None, List, [], ◌∷◌, ◌++◌, refl, sym, ap, ap₂, ◌∙◌, subst, arith, append-nil, length, take, drop, length-drop, get_or, drop-cons, add-one}
+use Rattle.std.proofs.Common.{max, ◌≤◌, ◌≡◌, ℕ, ◌+◌, ◌-◌, ◌<◌, true, false, ◌||◌, Some, None, List, [], ◌∷◌, ◌++◌, refl, sym, ap, ap₂, ◌∙◌, subst, arith, length, take, drop, length-drop, get_or, drop-cons, add-one}
 use Rattle.std.proofs.lemmas.List.{take_all}
-use Rattle.algebra.specs.Fraction.{Fraction, mul, mul_comm}
+use Rattle.algebra.specs.Fraction.{Fraction, mul_comm}
 use Rattle.algebra.specs.RingLaws as L
 use Rattle.algebra.specs.Steps.{product}
 use Rattle.ratio.specs.declared.reduced.Ratio.{Ratio}
 use Rattle.ratio.specs.Value.{fraction_of}
-use Rattle.calculus.specs.Polynomial.{Polynomial, nil, plus, times, constant, monomial, polynomials, plus_assoc, plus-nil, times-plus}
+use Rattle.calculus.specs.Polynomial.{Polynomial, plus, times, constant, monomial, polynomials, plus_assoc, plus-nil, times-plus}
 use Rattle.polyalg.specs.Exponents.{key}
 use Rattle.polyalg.specs.Terms.{term_value, value_of, Rising, keys_and, IsTerm, AreTerms, IsPoly, kept}
+use Rattle.polyalg.specs.Products.{degree_of}
 use Rattle.polyalg.specs.Range.{product_passes}
 use Rattle.polyalg.specs.declared.term.Term.{Term}
 use Rattle.polyalg.proofs.MonomialLaws.{monomial-scaled}
-use Rattle.polyalg.proofs.SortedLaws.{value_of-kept, terms_kept, rising_kept, rising_front, unraised}
+use Rattle.polyalg.proofs.SortedLaws.{value_of-kept, terms_kept, degree_kept, rising_kept, rising_front}
 use Rattle.polyalg.proofs.StepLaws.{product_is, some_is_not_none, none_is_none}
 
 -- the terms that are left
@@ -37,11 +38,12 @@ pub record Scaled (c : Fraction) (out left all : List Term) : Type 0 where
   pub rising : Rising (keys_and 0 out ++ keys_and 0 left)
   pub there : AreTerms out
   pub remain : AreTerms left
+  pub degree : max (degree_of out) (degree_of left) ≤ degree_of all
 
 pub scaled_begin : (c : Fraction) (out all : List Term) → out ≡ [] → IsPoly all → Scaled c out all all
 scaled_begin c out all e p =
     subst (λ us. Scaled c us all all) (sym e)
-        (record { value = L.zero-add polynomials (times (constant c) (value_of all)); passes = refl; rising = p.sorted; there = tt; remain = p.terms })
+    (record { value = L.zero-add polynomials (times (constant c) (value_of all)); passes = refl; rising = p.sorted; there = tt; remain = p.terms; degree = omega arith })
 
 collect : (a b c d e : Polynomial) → plus a (plus b c) ≡ e → d ≡ plus a b → plus d c ≡ e
 collect a b c d e h k = ap (λ x. plus x c) k ∙ plus_assoc a b c ∙ h
@@ -59,12 +61,13 @@ scaled_step c out left all next rest t x is h n s =
     record {
       value =
           collect (value_of out) (term_value u) (times (constant c) (value_of rest)) (value_of next) (times (constant c) (value_of all))
-              (ap (plus (value_of out)) (ap (λ y. plus y (times (constant c) (value_of rest))) (sym (scaled_term c t x h)) ∙ sym (times-plus (constant c) (term_value t) (value_of rest)) ∙ ap (λ ts. times (constant c) (value_of ts)) (sym is)) ∙ s.value)
-              (ap value_of n ∙ value_of-kept out u);
+          (ap (plus (value_of out)) (ap (λ y. plus y (times (constant c) (value_of rest))) (sym (scaled_term c t x h)) ∙ sym (times-plus (constant c) (term_value t) (value_of rest)) ∙ ap (λ ts. times (constant c) (value_of ts)) (sym is)) ∙ s.value)
+          (ap value_of n ∙ value_of-kept out u);
       passes = ap (λ b. b || product_passes c rest) (sym (some_is_not_none (product (fraction_of t.c) c) (fraction_of x) h)) ∙ ap (product_passes c) (sym is) ∙ s.passes;
       rising = subst (λ ts. Rising (keys_and 0 ts ++ keys_and 0 rest)) (sym n) (rising_kept 0 out u (key t.e + 0) (keys_and 0 rest) refl (subst (λ ts. Rising (keys_and 0 out ++ keys_and 0 ts)) is s.rising));
       there = subst AreTerms (sym n) (terms_kept out u s.there (λ z. record { three = r.0.three; small = r.0.small; some = z }));
       remain = r.1;
+      degree = omega (arith, s.degree, ap degree_of n, degree_kept out u, ap degree_of is);
     }
 
 pub scaled_fails : (c : Fraction) (out left all rest : List Term) (t : Term) → left ≡ t ∷ rest → product (fraction_of t.c) c ≡ None
@@ -81,3 +84,6 @@ scaled_passes c out left all e s = sym s.passes ∙ ap (product_passes c) e
 
 pub scaled_lawful : (c : Fraction) (out left all : List Term) → Scaled c out left all → IsPoly out
 scaled_lawful c out left all s = record { sorted = rising_front (keys_and 0 out) (keys_and 0 left) s.rising; terms = s.there }
+
+pub scaled_degree : (c : Fraction) (out left all : List Term) → Scaled c out left all → degree_of out ≤ degree_of all
+scaled_degree c out left all s = omega (arith, s.degree)

@@ -1,11 +1,10 @@
 -- Quotients of small whole numbers fit
-use Rattle.std.proofs.Common.{◌≡◌, ℕ, zero, suc, ℤ, pos, ◌+◌, ◌*◌, ◌*ℤ◌, ◌/◌, ◌<◌, ◌≤◌, ◌^◌, true, refl, sym, ap, ap₂, ◌∙◌, arith, unsigned_abs, Option, Some, None, IsSome, if◌then◌else◌}
+use Rattle.std.proofs.Common.{◌≡◌, ℕ, zero, suc, pos, ◌+◌, ◌*◌, ◌*ℤ◌, ◌/◌, ◌<◌, ◌^◌, true, refl, sym, ap, ap₂, ◌∙◌, arith, unsigned_abs, Option, Some, None, IsSome, if◌then◌else◌}
 use Rattle.std.proofs.lemmas.Int.{unsigned_abs-mul}
 use Rattle.std.proofs.Math.Nat.{div-le_self}
 use Rattle.algebra.specs.Ring.{natural}
-use Rattle.algebra.specs.Gcd.{gcd}
-use Rattle.algebra.specs.Fraction.{Fraction, fractions, whole, pair_product, inverse_parts, mul, mul_one, mul_comm, inverse, of_integer, zero_fraction, one_fraction, add, add_zero}
-use Rattle.algebra.specs.Steps.{quotient, fits, fitting}
+use Rattle.algebra.specs.Fraction.{Fraction, fractions, whole, pair_product, inverse_parts, mul, mul_one, inverse, of_integer, one_fraction, add, add_zero}
+use Rattle.algebra.specs.Steps.{quotient, fits}
 use Rattle.algebra.proofs.WholeLaws.{of_integer-zero, of_integer-one, of_integer-add}
 use Rattle.algebra.proofs.InverseLaws.{inverse_unique}
 use Rattle.ratio.specs.declared.reduced.Ratio.{Ratio}

@@ -1,11 +1,12 @@
 -- Lists of terms that are there, and terms that are left
-use Rattle.std.proofs.Common.{◌≡◌, ℕ, zero, suc, ◌+◌, ◌<◌, ◌≤◌, Bool, true, false, if◌then◌else◌, List, [], ◌∷◌, ◌++◌, refl, sym, ap, ap₂, ◌∙◌, subst, arith, append_assoc, append-nil}
+use Rattle.std.proofs.Common.{◌≤◌, max, ◌≡◌, ℕ, ◌+◌, ◌<◌, Bool, true, false, if◌then◌else◌, List, [], ◌∷◌, ◌++◌, refl, sym, ap, ◌∙◌, subst, arith, append_assoc}
 use Rattle.algebra.specs.Fraction.{is_zero_fraction}
 use Rattle.ratio.specs.Value.{fraction_of}
-use Rattle.calculus.specs.Polynomial.{Polynomial, nil, plus, polynomials, plus-nil, plus_assoc}
+use Rattle.calculus.specs.Polynomial.{plus, polynomials, plus-nil, plus_assoc}
 use Rattle.algebra.specs.RingLaws as L
-use Rattle.polyalg.specs.Exponents.{key}
-use Rattle.polyalg.specs.Terms.{term_value, value_of, AreAbove, Rising, keys_and, IsSorted, IsTerm, AreTerms, IsPoly, kept}
+use Rattle.polyalg.specs.Exponents.{key, total}
+use Rattle.polyalg.specs.Products.{degree_of}
+use Rattle.polyalg.specs.Terms.{term_value, value_of, AreAbove, Rising, keys_and, IsTerm, AreTerms, kept}
 use Rattle.polyalg.specs.declared.term.Term.{Term}
 use Rattle.polyalg.proofs.MonomialLaws.{monomial_of_zero}
 
@@ -38,9 +39,10 @@ rising_front (x ∷ xs) ys r = (above_left x xs ys r.0, rising_front xs ys r.1)
 -- a number that is less than all that are left comes between
 pub rising_between : (xs ys zs : List ℕ) (l : ℕ) → Rising (xs ++ l ∷ ys) → Rising (xs ++ zs) → AreAbove l zs → Rising ((xs ++ l ∷ []) ++ zs)
 rising_between [] ys zs l a b h = (h, b)
-rising_between (x ∷ xs) ys zs l a b h =
-    (above-append x (xs ++ l ∷ []) zs (above-append x xs (l ∷ []) (above_left x xs (l ∷ ys) a.0) ((above_right x xs (l ∷ ys) a.0).0, tt)) (above_right x xs zs b.0),
-     rising_between xs ys zs l a.1 b.1 h)
+rising_between (x ∷ xs) ys zs l a b h = (
+  above-append x (xs ++ l ∷ []) zs (above-append x xs (l ∷ []) (above_left x xs (l ∷ ys) a.0) ((above_right x xs (l ∷ ys) a.0).0, tt)) (above_right x xs zs b.0),
+  rising_between xs ys zs l a.1 b.1 h,
+)
 
 pub head_above : (xs : List ℕ) (n : ℕ) (ns : List ℕ) → Rising (xs ++ n ∷ ns) → AreAbove n ns
 head_above [] n ns r = r.0
@@ -79,6 +81,7 @@ terms_kept ts t a h = go (is_zero_fraction (fraction_of t.c)) refl where
   more : (us : List Term) → AreTerms us → IsTerm t → AreTerms (us ++ t ∷ [])
   more [] a i = (i, tt)
   more (u ∷ us) a i = (a.0, more us a.1 i)
+
   go : (b : Bool) → is_zero_fraction (fraction_of t.c) ≡ b → AreTerms (if b then ts else ts ++ t ∷ [])
   go true e = a
   go false e = more ts a (h e)
@@ -90,5 +93,16 @@ rising_kept k ts t n ns e r = go (is_zero_fraction (fraction_of t.c)) where
   go true = rising_skip (keys_and k ts) n ns r
   go false =
       subst Rising
-          (ap (λ m. keys_and k ts ++ m ∷ ns) (sym e) ∙ sym (append_assoc (keys_and k ts) ((key t.e + k) ∷ []) ns) ∙ ap (λ ks. ks ++ ns) (sym (keys-append k ts (t ∷ []))))
-          r
+      (ap (λ m. keys_and k ts ++ m ∷ ns) (sym e) ∙ sym (append_assoc (keys_and k ts) ((key t.e + k) ∷ []) ns) ∙ ap (λ ks. ks ++ ns) (sym (keys-append k ts (t ∷ []))))
+      r
+
+-- ---- degrees
+pub degree-append : (ts us : List Term) → degree_of (ts ++ us) ≡ max (degree_of ts) (degree_of us)
+degree-append [] us = omega arith
+degree-append (t ∷ ts) us = omega (arith, degree-append ts us)
+
+pub degree_kept : (ts : List Term) (t : Term) → degree_of (kept ts t) ≤ max (degree_of ts) (total t.e)
+degree_kept ts t = go (is_zero_fraction (fraction_of t.c)) where
+  go : (b : Bool) → degree_of (if b then ts else ts ++ t ∷ []) ≤ max (degree_of ts) (total t.e)
+  go true = omega arith
+  go false = omega (arith, degree-append ts (t ∷ []))

@@ -1,5 +1,5 @@
 -- What a step on coefficients says
-use Rattle.std.proofs.Common.{◌≡◌, Bool, true, false, is_none, if◌then◌else◌, Option, Some, None, refl, sym, ap, ◌∙◌}
+use Rattle.std.proofs.Common.{◌≡◌, Bool, true, false, is_none, if◌then◌else◌, Option, Some, None, sym, ap, ◌∙◌}
 use Rattle.algebra.specs.Fraction.{Fraction, add, mul}
 use Rattle.algebra.specs.Steps.{product, sum, fits, sum_fits}
 use Rattle.ratio.specs.declared.reduced.Ratio.{Ratio}

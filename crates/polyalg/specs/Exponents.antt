@@ -1,5 +1,5 @@
 -- Lists of exponents of the variables 0, 1 and 2
-use Rattle.std.specs.Prelude.{ℕ, zero, suc, ◌+◌, ◌*◌, ◌-◌, ◌^◌, List, [], ◌∷◌}
+use Rattle.std.specs.Prelude.{ℕ, zero, suc, ◌+◌, ◌*◌, ◌^◌, List, [], ◌∷◌}
 
 -- the exponent of variable i; what isn't written is 0
 abbrev pub exponent : List ℕ → ℕ → ℕ

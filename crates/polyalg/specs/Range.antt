@@ -34,3 +34,8 @@ term_passes t (u ∷ us) = (key t.e == key u.e && is_none (sum (fraction_of t.c)
 abbrev pub sum_passes : List Term → List Term → Bool
 sum_passes [] us = false
 sum_passes (t ∷ ts) us = term_passes t us || sum_passes ts us
+
+-- one of the products of a term's coefficient with those of the terms
+abbrev pub row_passes : Term → List Term → Bool
+row_passes s [] = false
+row_passes s (t ∷ ts) = is_none (product (fraction_of s.c) (fraction_of t.c)) || row_passes s ts

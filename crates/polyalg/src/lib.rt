@@ -6,12 +6,15 @@
 #![tactic(auto)]
 
 mod fault;
-mod term;
-mod terms;
+mod integral;
+mod poly;
+mod product;
 mod scaled;
 mod sum;
-mod poly;
+mod term;
+mod terms;
 
 pub use fault::PolyFault;
+pub use integral::ref_integral;
 pub use poly::Poly;
 pub use term::Term;

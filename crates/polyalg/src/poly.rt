@@ -1,13 +1,15 @@
 //! Polynomials as sorted lists of terms.
 
-ghost use Rattle.std.specs.Prelude.{◌≡◌, ◌<◌, ◌≤◌, IfOk};
+ghost use Rattle.std.specs.Prelude.{◌≡◌, ◌+◌, ◌<◌, ◌≤◌, max, is_none, IfOk};
 ghost use Rattle.ratio.specs.Value.{fraction_of};
-ghost use Rattle.calculus.specs.Polynomial.{monomial, constant as constant_polynomial, coordinate, plus, times, derivative};
+ghost use Rattle.calculus.specs.Polynomial.{nil, monomial, constant as constant_polynomial, coordinate, plus, times, derivative};
 ghost use Rattle.polyalg.specs.Terms.{value_of, IsPoly};
+ghost use Rattle.polyalg.specs.Products.{degree_of, product_steps};
 ghost use Rattle.polyalg.specs.Range.{product_passes, derivative_passes, sum_passes, RangeWhere};
 ghost use Rattle.polyalg.specs.Exponents.{total};
 
 use crate::fault::PolyFault;
+use crate::product::multiplied;
 use crate::scaled::{derived, scaled};
 use crate::sum::merged;
 use crate::term::Term;
@@ -46,7 +48,8 @@ impl Poly {
 
     /// The polynomial without a variable.
     pub fn constant(alloc: Global, c: Ratio) -> Result<Poly, AllocError>
-        ensures { IfOk result (λ p. value_of p ≡ constant_polynomial (fraction_of c)) }
+        ensures value { IfOk result (λ p. value_of p ≡ constant_polynomial (fraction_of c)) }
+        ensures degree { IfOk result (λ p. degree_of p ≡ 0) }
     {
         single(alloc, [0, 0, 0], c)
     }
@@ -54,7 +57,8 @@ impl Poly {
     /// The polynomial that is variable k.
     pub fn variable(alloc: Global, k: u8) -> Result<Poly, AllocError>
         requires { k < 3 }
-        ensures { IfOk result (λ p. value_of p ≡ coordinate k) }
+        ensures value { IfOk result (λ p. value_of p ≡ coordinate k) }
+        ensures degree { IfOk result (λ p. degree_of p ≤ 1) }
     {
         let e = match k {
             0 => [1, 0, 0],
@@ -68,8 +72,21 @@ impl Poly {
     pub fn add(&self, alloc: Global, o: &Poly) -> Result<Poly, PolyFault>
         ensures value { IfOk result (λ p. value_of p ≡ plus (value_of self.now) (value_of o.now)) }
         ensures range { RangeWhere (sum_passes self.now o.now) result }
+        ensures degree { IfOk result (λ p. degree_of p ≤ max (degree_of self.now) (degree_of o.now)) }
     {
         let terms = merged(alloc, self.terms.as_slice(), o.terms.as_slice())?;
+        Ok(Poly { terms })
+    }
+
+    /// The product. `Range` exactly where a step passes: for each term of the left side, then each of the right side, the
+    /// product of the coefficients, then its sum with the coefficient that these exponents have so far.
+    pub fn mul(&self, alloc: Global, o: &Poly) -> Result<Poly, PolyFault>
+        requires { degree_of self.now + degree_of o.now ≤ 65535 }
+        ensures value { IfOk result (λ p. value_of p ≡ times (value_of self.now) (value_of o.now)) }
+        ensures range { RangeWhere (is_none (product_steps nil self.now o.now)) result }
+        ensures degree { IfOk result (λ p. degree_of p ≤ degree_of self.now + degree_of o.now) }
+    {
+        let terms = multiplied(alloc, self.terms.as_slice(), o.terms.as_slice())?;
         Ok(Poly { terms })
     }
 
@@ -77,6 +94,7 @@ impl Poly {
     pub fn scale(&self, alloc: Global, c: Ratio) -> Result<Poly, PolyFault>
         ensures value { IfOk result (λ p. value_of p ≡ times (constant_polynomial (fraction_of c)) (value_of self.now)) }
         ensures range { RangeWhere (product_passes (fraction_of c) self.now) result }
+        ensures degree { IfOk result (λ p. degree_of p ≤ degree_of self.now) }
     {
         let terms = scaled(alloc, self.terms.as_slice(), c)?;
         Ok(Poly { terms })
@@ -87,6 +105,7 @@ impl Poly {
         requires { k < 3 }
         ensures value { IfOk result (λ p. value_of p ≡ derivative k (value_of self.now)) }
         ensures range { RangeWhere (derivative_passes k self.now) result }
+        ensures degree { IfOk result (λ p. degree_of p ≤ degree_of self.now) }
     {
         let terms = derived(alloc, self.terms.as_slice(), k)?;
         Ok(Poly { terms })
@@ -96,7 +115,8 @@ impl Poly {
 /// The polynomial of one term.
 fn single(alloc: Global, e: [u32; 3], c: Ratio) -> Result<Poly, AllocError>
     requires { total e ≤ 65535 }
-    ensures { IfOk result (λ p. value_of p ≡ monomial (fraction_of c) e) }
+    ensures value { IfOk result (λ p. value_of p ≡ monomial (fraction_of c) e) }
+    ensures degree { IfOk result (λ p. degree_of p ≤ total e) }
 {
     let mut terms = Vec::new(alloc);
     if c.is_zero() {

@@ -1,9 +1,10 @@
 //! Multiples and derivatives, term by term.
 
-ghost use Rattle.std.specs.Prelude.{◌≡◌, ◌<◌, IfOk};
+ghost use Rattle.std.specs.Prelude.{◌≡◌, ◌<◌, ◌≤◌, IfOk};
 ghost use Rattle.ratio.specs.Value.{fraction_of};
 ghost use Rattle.calculus.specs.Polynomial.{constant, times, derivative};
 ghost use Rattle.polyalg.specs.Terms.{value_of, IsPoly};
+ghost use Rattle.polyalg.specs.Products.{degree_of};
 ghost use Rattle.polyalg.specs.Range.{product_passes, derivative_passes, RangeWhere};
 
 use crate::fault::PolyFault;
@@ -18,6 +19,7 @@ pub fn scaled(alloc: Global, terms: &[Term], c: Ratio) -> Result<Vec<Term>, Poly
     ensures value { IfOk result (λ v. value_of v.items ≡ times (constant (fraction_of c)) (value_of terms.now)) }
     ensures range { RangeWhere (product_passes (fraction_of c) terms.now) result }
     ensures lawful { IfOk result (λ v. IsPoly v.items) }
+    ensures degree { IfOk result (λ v. degree_of v.items ≤ degree_of terms.now) }
 {
     let mut out = Vec::new(alloc);
     for term in terms {
@@ -42,6 +44,7 @@ pub fn derived(alloc: Global, terms: &[Term], k: u8) -> Result<Vec<Term>, PolyFa
     ensures value { IfOk result (λ v. value_of v.items ≡ derivative k (value_of terms.now)) }
     ensures range { RangeWhere (derivative_passes k terms.now) result }
     ensures lawful { IfOk result (λ v. IsPoly v.items) }
+    ensures degree { IfOk result (λ v. degree_of v.items ≤ degree_of terms.now) }
 {
     let mut out = Vec::new(alloc);
     for term in terms {

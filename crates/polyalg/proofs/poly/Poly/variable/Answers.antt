@@ -6,12 +6,12 @@ use Rattle.polyalg.proofs.MonomialLaws.{coordinate_0, coordinate_1, coordinate_2
 use Rattle.polyalg.proofs.poly.Poly.variable.Goals as goal
 use Rattle.polyalg.proofs.poly.Poly.variable.Goals.{in-0, in-1, in_default}
 
-pub returns : goal.returns
-returns c =
+pub returns-clause-value : goal.returns-clause-value
+returns-clause-value c =
     subst (λ q. IfOk c.single.result (λ p. value_of p ≡ q))
-        (elim c.match-k.branch as (λ _. monomial (fraction_of c.one.result) c.match-k.e ≡ coordinate c.args.k) [
-          | in-0 w ↦ coordinate_monomial c.args.k _ _ (1 ∷ 0 ∷ 0 ∷ []) 0 c.one.ensures w.e-is coordinate_0 w.in-0.is
-          | in-1 w ↦ coordinate_monomial c.args.k _ _ (0 ∷ 1 ∷ 0 ∷ []) 1 c.one.ensures w.e-is coordinate_1 w.in-1.is
-          | in_default w ↦ coordinate_monomial c.args.k _ _ (0 ∷ 0 ∷ 1 ∷ []) 2 c.one.ensures w.e-is coordinate_2 (omega arith)
-        ])
-        c.single.ensures
+    (elim c.match-k.branch as (λ _. monomial (fraction_of c.one.result) c.match-k.e ≡ coordinate c.args.k) [
+      | in-0 w ↦ coordinate_monomial c.args.k _ _ (1 ∷ 0 ∷ 0 ∷ []) 0 c.one.ensures w.e-is coordinate_0 w.in-0.is
+      | in-1 w ↦ coordinate_monomial c.args.k _ _ (0 ∷ 1 ∷ 0 ∷ []) 1 c.one.ensures w.e-is coordinate_1 w.in-1.is
+      | in_default w ↦ coordinate_monomial c.args.k _ _ (0 ∷ 0 ∷ 1 ∷ []) 2 c.one.ensures w.e-is coordinate_2 (omega arith)
+    ])
+    c.single.ensures.value
