@@ -1,2 +1,4 @@
 pub mod White
 pub mod Next
+pub mod Form
+pub mod FormNext
