@@ -1,5 +1,5 @@
 -- The tokens of a form file
-use Rattle.std.specs.Prelude.{◌≡◌, ℕ, zero, suc, ◌+◌, ◌-◌, Bool, true, false, not, ◌||◌, ◌==◌, nat_lt, if◌then◌else◌, List, [], ◌∷◌, take, drop, Option, Some, None, Result, Ok, Err}
+use Rattle.std.specs.Prelude.{◌≡◌, ℕ, zero, suc, ◌+◌, ◌*◌, ◌-◌, Bool, true, false, not, length, ◌||◌, ◌==◌, nat_lt, if◌then◌else◌, List, [], ◌∷◌, take, drop, Option, Some, None, Result, Ok, Err}
 use Rattle.slices.specs.FormGap.{Spot, spot, blanks, after_gap}
 use Rattle.slices.specs.FormTable.{form_token}
 use Rattle.slices.specs.Tokens.{Token, token_of}
@@ -60,3 +60,13 @@ abbrev pub IsFormStep : FormReader → Option (Result Tok LexAt) → FormReader 
 IsFormStep old None new = (form_next old ≡ finished) × (new ≡ old)
 IsFormStep old (Some (Ok t)) new = form_next old ≡ token (token_of t) new
 IsFormStep old (Some (Err e)) new = (form_next old ≡ no_token e.from e.line) × (new ≡ old)
+
+-- How much is still to be read: twice the bytes, and one more where the end of the text would end a statement.
+abbrev pub unread : FormReader → ℕ
+unread r = 2 * (length r.source - r.at) + (if r.begun then 1 else 0)
+
+-- the tokens of a form file from here on, and the place where no token starts, if there is one
+pub data Scan : FormReader → List Tok → Option LexAt → Type 0 where
+  no_more : {r : FormReader} → form_next r ≡ finished → Scan r [] None
+  lost : {r : FormReader} {e : LexAt} → form_next r ≡ no_token e.from e.line → Scan r [] (Some e)
+  one_more : {r : FormReader} {t : Tok} {q : FormReader} {ts : List Tok} {e : Option LexAt} → form_next r ≡ token (token_of t) q → Scan q ts e → Scan r (t ∷ ts) e

@@ -138,7 +138,7 @@ fn depth_after(byte: u8, depth: usize) -> usize
 }
 
 impl<'a> FormToks<'a> {
-    ghost use Rattle.slices.specs.FormTokens.{IsFormStep, form_begins};
+    ghost use Rattle.slices.specs.FormTokens.{IsFormStep, form_begins, unread};
 
     /// The tokens of a form file of fewer than 2^32 bytes.
     pub fn new(text: &'a [u8]) -> FormToks<'a>
@@ -160,6 +160,7 @@ impl<'a> FormToks<'a> {
         ensures step { IsFormStep self.old result self.new }
         ensures source { self.new.source ≡ self.old.source }
         ensures slice { IfSome result (λ r. IfOk r (λ t. t.text.now ≡ take (length t.text.now) (drop t.from self.old.source))) }
+        ensures moves { IfSome result (λ r. IfOk r (λ t. unread self.new < unread self.old)) }
         ensures rises { IfSome result (λ r. IfOk r (λ t. (self.old.at ≤ t.from) × (self.new.at ≡ t.from + length t.text.now))) }
     {
         let quiet = is_quiet(self.begun, self.depth);
