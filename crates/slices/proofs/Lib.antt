@@ -1,3 +1,5 @@
 pub mod White
 pub mod Next
 pub mod Ahead
+pub mod Form
+pub mod FormNext

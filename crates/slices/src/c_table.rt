@@ -9,13 +9,13 @@ const HEADER: &[u8; 6] = b"\"fr.h\"";
 
 const INCLUDE: &[u8; 8] = b"#include";
 
-fn is_letter(byte: u8) -> bool
+pub fn is_letter(byte: u8) -> bool
     ensures { result ≡ letter byte }
 {
     (b'a' <= byte && byte <= b'z') || (b'A' <= byte && byte <= b'Z') || byte == b'_'
 }
 
-fn is_digit(byte: u8) -> bool
+pub fn is_digit(byte: u8) -> bool
     ensures { result ≡ digit byte }
 {
     b'0' <= byte && byte <= b'9'
@@ -39,7 +39,7 @@ fn is_sign(byte: u8) -> bool
 
 // How many bytes at the front are letters and digits.
 #[tactic(auto, unfolding(crate::specs::CTable::word_length))]
-fn word_length(text: &[u8]) -> usize
+pub fn word_length(text: &[u8]) -> usize
     ensures value { result ≡ length_of_word text.now }
     ensures within { result ≤ length text.now }
 {

@@ -1,5 +1,5 @@
 -- One turn of the machine in a statement.
-use Rattle.std.proofs.Common.{[], ◌∷◌, ◌++◌, ◌≡◌, ◌+◌, Result, Ok, Err, ◌<◌, ◌≤◌, true, false, Bool, length, drop, List, ℕ, zero, suc, Option, Some, None, refl, sym, ap, subst, ◌∙◌, append_assoc, append-nil, arith, length-drop}
+use Rattle.std.proofs.Common.{[], ◌∷◌, ◌++◌, ◌≡◌, ◌+◌, Result, Ok, Err, ◌<◌, ◌≤◌, true, false, Bool, length, take, drop, List, ℕ, zero, suc, Option, Some, None, refl, sym, ap, subst, ◌∙◌, append_assoc, append-nil, arith, length-drop}
 use Rattle.slices.specs.declared.toks.Tok.{Tok}
 use Rattle.ufl_syntax.specs.declared.class.Class.{Class}
 use Rattle.ufl_syntax.specs.declared.class.Class.TheVariants as k
@@ -10,10 +10,12 @@ use Rattle.ufl_syntax.specs.declared.tree.Stmt.{Stmt}
 use Rattle.ufl_syntax.specs.declared.tree.Syn.{Syn}
 use Rattle.ufl_syntax.specs.Grammar.{assignment, import_all, first_line, Value, LaterNames, no_name, last_name, further_name, Names, one_name, several_names, Targets, bare_targets, bracketed_targets, Statement, imports, assigns, updated, updates, File, no_statement, one_statement}
 use Rattle.ufl_syntax.specs.Machine.{Part, takes, skips, wrong, deep, part_on, names_on, comma_on, first_on, statement_on, run, Outcome, ended, stopped, sank, same, begins_statement, statements, a_statement, after_first, later_names, after_target, a_value, a_word, token}
+use Rattle.std.proofs.lemmas.List.{take-append-drop, append_cancel_right}
+use Rattle.ufl_syntax.specs.Refusal.{IsRefused, IsWrong, IsTooDeep}
 use Rattle.ufl_syntax.proofs.Words.{same_is}
 use Rattle.ufl_syntax.proofs.Steps.{run_takes, run_skips, run_wrong}
 use Rattle.ufl_syntax.proofs.Complete.{run_none, statements_begin, statements_skip, update_on, runs_whole, no_file_short}
-use Rattle.ufl_syntax.proofs.Refusal.{is_refused, is_sunk, stops_at, sinks_at}
+use Rattle.ufl_syntax.proofs.Refusal.{ended_begins, is_refused, is_sunk, stops_at, sinks_at}
 use Rattle.ufl_syntax.proofs.Unique.{one_reading}
 use Rattle.ufl_read.specs.declared.tokens.Fault.{Fault}
 use Rattle.ufl_read.specs.declared.tokens.Fault.TheVariants as f
@@ -150,15 +152,23 @@ pub all_read : (n : ℕ) (all : List Lexeme) (at : ℕ) (old : List Stmt) → le
 all_read n all at old h f =
     subst (λ l. File n all l []) (append-nil old) (f [] [] (subst (λ l. File n l [] []) (sym (nothing_left all at h)) no_statement))
 
+-- the tokens before the bad one are those before its place
+before_at : (all front : List Lexeme) (bad : Lexeme) (after : List Lexeme) (at : ℕ) → drop at all ≡ bad ∷ after → all ≡ front ++ bad ∷ after → front ≡ take at all
+before_at all front bad after at d e =
+    let whole : take at all ++ bad ∷ after ≡ all = ap (λ l. take at all ++ l) (sym d) ∙ take-append-drop at all in
+    sym (append_cancel_right (take at all) front (bad ∷ after) (whole ∙ e))
+
 pub refusal_from : (n : ℕ) (all : List Lexeme) (e : Fault) → Fails all e (run (statements n ∷ []) all) → IsRefusal n all e
 refusal_from n all f.Memory h = tt
-refusal_from n all f.Short h = λ sts d. no_file_short n all sts d h
+refusal_from n all f.Short h = (ended_begins n all false h, λ sts d. no_file_short n all sts d h)
 refusal_from n all (f.Wrong at) h =
     let s = stops_at all (statements n ∷ []) (drop at all) h in
-    (s.0, s.1, s.2, is_refused n all s.0 s.1 (h ∙ ap stopped s.2))
+    let r = is_refused n all s.0 s.1 (h ∙ ap stopped s.2) in
+    (s.0, s.1, s.2, subst (λ front. IsRefused n front s.0 × IsWrong n front s.0) (before_at all r.0 s.0 s.1 at s.2 r.1) (r.2, r.3))
 refusal_from n all (f.Deep at) h =
     let s = sinks_at all (statements n ∷ []) (drop at all) h in
-    (s.0, s.1, s.2, is_sunk n all s.0 s.1 (h ∙ ap sank s.2))
+    let r = is_sunk n all s.0 s.1 (h ∙ ap sank s.2) in
+    (s.0, s.1, s.2, subst (λ front. IsRefused n front s.0 × IsTooDeep n front s.0) (before_at all r.0 s.0 s.1 at s.2 r.1) (r.2, r.3))
 
 -- what follows the first token of a statement, read on its own
 pub reads_first : (n : ℕ) (all : List Lexeme) (at : ℕ) (t : Lexeme) (b : Bool) → drop at all ≡ t ∷ drop (at + 1) all → t.class ≡ k.Name b → (r : Result (Stmt × ℕ) Fault)

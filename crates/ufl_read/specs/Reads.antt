@@ -1,5 +1,5 @@
 -- What a function of the reader answers.
-use Rattle.std.specs.Prelude.{◌≡◌, ◌≤◌, ◌<◌, ℕ, zero, suc, Bool, true, false, List, [], ◌∷◌, ◌++◌, drop, Option, Some, None, Result, Ok, Err}
+use Rattle.std.specs.Prelude.{◌≡◌, ◌≤◌, ◌<◌, ℕ, zero, suc, Bool, true, false, List, [], ◌∷◌, ◌++◌, take, drop, Option, Some, None, Result, Ok, Err}
 use Rattle.ufl_syntax.specs.declared.class.Class.{Class}
 use Rattle.ufl_syntax.specs.declared.class.Class.TheVariants as k
 use Rattle.ufl_syntax.specs.declared.class.Lexeme.{Lexeme}
@@ -8,7 +8,7 @@ use Rattle.ufl_syntax.specs.declared.tree.AssignOp.TheVariants as o
 use Rattle.ufl_syntax.specs.declared.tree.Stmt.{Stmt}
 use Rattle.ufl_syntax.specs.declared.tree.Syn.{Syn}
 use Rattle.ufl_syntax.specs.Grammar.{Value, File, updates}
-use Rattle.ufl_syntax.specs.Refusal.{IsRefused}
+use Rattle.ufl_syntax.specs.Refusal.{Begins, IsRefused, IsWrong, IsTooDeep}
 use Rattle.ufl_syntax.specs.Machine.{Part, Outcome, ended, stopped, sank, run, may_be_empty, all_may, a_value, a_word, after_target, token}
 use Rattle.ufl_read.specs.declared.tokens.Fault.{Fault}
 use Rattle.ufl_read.specs.declared.tokens.Fault.TheVariants as f
@@ -81,12 +81,13 @@ import_parts = token (k.Name true) ∷ token k.Import ∷ token k.Times ∷ toke
 abbrev pub bracket_parts : ℕ → List Part
 bracket_parts n = a_word n ∷ after_target ∷ token k.Close ∷ token k.Assign ∷ a_value n ∷ token k.End ∷ []
 
-abbrev pub At : ℕ → List Lexeme → ℕ → Type 0
-At n all at = (bad : Lexeme) × (after : List Lexeme) × (drop at all ≡ bad ∷ after) × IsRefused n all bad after
+-- the tokens before a place, and the bad one at it
+abbrev pub At : (List Lexeme → Lexeme → Type 0) → List Lexeme → ℕ → Type 0
+At IsBad all at = (bad : Lexeme) × (after : List Lexeme) × (drop at all ≡ bad ∷ after) × IsBad (take at all) bad
 
 -- why the tokens are no list of statements
 abbrev pub IsRefusal : ℕ → List Lexeme → Fault → Type 0
 IsRefusal n all f.Memory = Unit {0}
-IsRefusal n all f.Short = (sts : List Stmt) → File n all sts [] → ⊥
-IsRefusal n all (f.Wrong at) = At n all at
-IsRefusal n all (f.Deep at) = At n all at
+IsRefusal n all f.Short = Begins n all × ((sts : List Stmt) → File n all sts [] → ⊥)
+IsRefusal n all (f.Wrong at) = At (λ front bad. IsRefused n front bad × IsWrong n front bad) all at
+IsRefusal n all (f.Deep at) = At (λ front bad. IsRefused n front bad × IsTooDeep n front bad) all at

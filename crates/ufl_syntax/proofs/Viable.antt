@@ -234,3 +234,17 @@ pub sinks : (ts : List Lexeme) (stack : List Part) (bad : Lexeme) (after : List 
 unfolding run
 sinks [] stack bad after h = cc
 sinks (t ∷ ts) stack bad after h = sinks_by t ts stack bad after (step stack t.class) refl (λ next e. sinks ts next bad after e) h
+
+ends_by : (u t : Lexeme) (ts : List Lexeme) (stack : List Part) (b : Bool) (x : m.Next) → step stack t.class ≡ x → ((next : List Part) → run next ts ≡ ended b → (more : List Lexeme) × All next (ts ++ more) [])
+    → resume (λ s. run s ts) (t ∷ ts) x ≡ ended b → (more : List Lexeme) × All stack (t ∷ (ts ++ more)) []
+ends_by u t ts stack b (goes_on next) e below h =
+    let r = below next h in
+    (r.0, step_back stack t (ts ++ r.0) [] (subst (λ y. AllNext y (ts ++ r.0) []) (sym e) r.1))
+ends_by u t ts stack b is_wrong e below h = cc
+ends_by u t ts stack b is_deep e below h = cc
+
+-- tokens that run out can be gone on with
+pub ends : (u : Lexeme) (ts : List Lexeme) (stack : List Part) (b : Bool) → run stack ts ≡ ended b → (more : List Lexeme) × All stack (ts ++ more) []
+unfolding run
+ends u [] stack b h = words u stack []
+ends u (t ∷ ts) stack b h = ends_by u t ts stack b (step stack t.class) refl (λ next e. ends u ts next b e) h

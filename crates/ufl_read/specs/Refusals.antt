@@ -1,0 +1,89 @@
+-- Why a form file is refused
+use Rattle.std.specs.Prelude.{◌≡◌, ◌<◌, ◌≤◌, ◌⊎◌, ℕ, Bool, true, false, if◌then◌else◌, length, take, drop, List, [], ◌∷◌, ◌++◌, Option, Some, None}
+use Rattle.slices.specs.declared.toks.Tok.{Tok}
+use Rattle.slices.specs.declared.toks.LexAt.{LexAt}
+use Rattle.slices.specs.FormTokens.{Scan, form_begins}
+use Rattle.ufl_syntax.specs.declared.class.Class.{Class}
+use Rattle.ufl_syntax.specs.declared.class.Class.TheVariants as k
+use Rattle.ufl_syntax.specs.declared.class.Lexeme.{Lexeme}
+use Rattle.ufl_syntax.specs.declared.tree.Stmt.{Stmt}
+use Rattle.ufl_syntax.specs.Grammar.{File}
+use Rattle.ufl_syntax.specs.Classes.{lexemes}
+use Rattle.ufl_syntax.specs.Refusal.{Begins, IsRefused, IsWrong, IsTooDeep}
+use Rattle.ufl_read.specs.declared.tokens.Fault.{Fault}
+use Rattle.ufl_read.specs.declared.tokens.Fault.TheVariants as f
+use Rattle.ufl_read.specs.declared.refusal.FormKind.{FormKind}
+use Rattle.ufl_read.specs.declared.refusal.FormKind.TheVariants as r
+use Rattle.ufl_read.specs.declared.refusal.FormRefusal.{FormRefusal}
+
+abbrev pub line_or : Option ℕ → ℕ → ℕ
+line_or None own = own
+line_or (Some line) own = line
+
+-- the line of the first token of a statement, behind one more token: none behind the end of a line
+abbrev pub line_started : Option ℕ → Class → ℕ → Option ℕ
+line_started line k.End own = None
+line_started line _ own = Some (line_or line own)
+
+abbrev pub started : Option ℕ → List Lexeme → Option ℕ
+started line [] = line
+started line (t ∷ ts) = started (line_started line t.class t.tok.line) ts
+
+-- The line on which the statement behind these tokens begins: that of the first token behind the last end of a line, and its own where there is none.
+unfoldable pub statement_line : List Lexeme → ℕ → ℕ
+statement_line front own = line_or (started None front) own
+
+abbrev pub wordless : FormKind → ℕ → FormRefusal
+wordless kind line = record { kind = kind; line = line; from = 0; len = 0 }
+
+-- keywords, `:` and `...`
+abbrev pub is_foreign : Class → Bool
+is_foreign k.From = true
+is_foreign k.Import = true
+is_foreign k.Foreign = true
+is_foreign _ = false
+
+-- a token that can't stand there: it is the refused word where it is of Python and not of this language
+abbrev pub wrong_at : List Lexeme → Lexeme → FormRefusal
+wrong_at front bad =
+    if is_foreign bad.class
+    then record { kind = r.Unsupported; line = statement_line front bad.tok.line; from = bad.tok.from; len = length bad.tok.text.now }
+    else wordless r.Syntax (statement_line front bad.tok.line)
+
+abbrev pub IsFile : List ℕ → List Stmt → Type 0
+IsFile text sts = (length text ≤ 262144) × (ts : List Tok) × Scan (form_begins text) ts None × File 64 (lexemes ts) sts []
+
+-- why a file that isn't too long is refused, wherever memory lasts
+pub data IsUnread : List ℕ → FormRefusal → Type 0 where
+  -- no token starts behind these, which can be gone on with
+  no_token : {text : List ℕ} (ts : List Tok) (e : LexAt) → Scan (form_begins text) ts (Some e) → Begins 64 (lexemes ts) → IsUnread text (wordless r.Lex (statement_line (lexemes ts) e.line))
+  wrong_token : {text : List ℕ} {ts : List Tok} {e : Option LexAt} (front : List Lexeme) (bad : Lexeme) (after : List Lexeme)
+      → Scan (form_begins text) ts e → lexemes ts ≡ front ++ bad ∷ after → IsRefused 64 front bad → IsWrong 64 front bad → IsUnread text (wrong_at front bad)
+  too_deep : {text : List ℕ} {ts : List Tok} {e : Option LexAt} (front : List Lexeme) (bad : Lexeme) (after : List Lexeme)
+      → Scan (form_begins text) ts e → lexemes ts ≡ front ++ bad ∷ after → IsRefused 64 front bad → IsTooDeep 64 front bad → IsUnread text (wordless r.Deep (statement_line front bad.tok.line))
+  -- the tokens are no list of statements, and can be gone on with
+  too_short : {text : List ℕ} (ts : List Tok) → Scan (form_begins text) ts None → Begins 64 (lexemes ts) → ((sts : List Stmt) → File 64 (lexemes ts) sts [] → ⊥)
+      → IsUnread text (wordless r.Syntax (statement_line (lexemes ts) 0))
+
+abbrev pub IsFormRefusal : List ℕ → FormRefusal → Type 0
+IsFormRefusal text e = (e ≡ wordless r.Memory 0) ⊎ ((262144 < length text) × (e ≡ wordless r.TooLong 0)) ⊎ ((length text ≤ 262144) × IsUnread text e)
+
+-- the same, from what the reader of tokens says
+abbrev pub wrong_by : List Lexeme → List Lexeme → FormRefusal
+wrong_by front [] = wordless r.Syntax 0
+wrong_by front (bad ∷ after) = wrong_at front bad
+
+abbrev pub deep_by : List Lexeme → List Lexeme → FormRefusal
+deep_by front [] = wordless r.Deep 0
+deep_by front (bad ∷ after) = wordless r.Deep (statement_line front bad.tok.line)
+
+abbrev pub refusal_for : List Lexeme → Fault → Option LexAt → FormRefusal
+refusal_for ts f.Memory e = wordless r.Memory 0
+refusal_for ts f.Short None = wordless r.Syntax (statement_line ts 0)
+refusal_for ts f.Short (Some e) = wordless r.Lex (statement_line ts e.line)
+refusal_for ts (f.Wrong at) e = wrong_by (take at ts) (drop at ts)
+refusal_for ts (f.Deep at) e = deep_by (take at ts) (drop at ts)
+
+-- the texts of these tokens are shorter than 2^32 bytes
+abbrev pub AreShort : List Lexeme → Type 0
+AreShort ts = (at : ℕ) (bad : Lexeme) (after : List Lexeme) → drop at ts ≡ bad ∷ after → length bad.tok.text.now < 4294967296

@@ -1,0 +1,64 @@
+// From the bytes of a form file to its statements.
+
+ghost use Rattle.std.specs.Prelude.{◌≡◌, ◌<◌, ◌^◌, length, IfOk, IfErr, List};
+ghost use Rattle.slices.specs.declared.toks.Tok.{Tok};
+ghost use Rattle.slices.specs.FormTokens.{Scan, form_begins};
+ghost use Rattle.ufl_syntax.specs.Classes.{lexemes};
+ghost use Rattle.ufl_read.specs.Refusals.{IsFile, IsFormRefusal};
+
+use crate::refusal::{FormKind, FormRefusal, refusal_of};
+use crate::statements::read_statements;
+use crate::tokens::Fault;
+use slices::{FormToks, LexAt};
+use sqlite_items::Items;
+use std::alloc::{AllocError, Global};
+use ufl_syntax::{Lexeme, Stmt};
+
+/// How many bytes a form file may have.
+pub const LIMIT: usize = 262_144;
+
+// All tokens with their classes, and the place where no token starts, if there is one.
+fn read_tokens<'a>(
+    alloc: Global,
+    text: &'a [u8],
+) -> Result<(Items<Lexeme<'a>>, Option<LexAt>), AllocError>
+    requires { length text.now < 2 ^ 32 }
+    ensures { IfOk result (λ r. (ts : List Tok) × Scan (form_begins text.now) ts r.1 × (r.0 ≡ lexemes ts)) }
+{
+    let mut tokens = FormToks::new(text);
+    let mut all = Items::new(alloc);
+    'all: loop {
+        let Some(next) = tokens.next() else {
+            return Ok((all, None));
+        };
+        match next {
+            Err(lost) => return Ok((all, Some(lost))),
+            Ok(token) => all.push(Lexeme::new(token))?,
+        }
+    }
+}
+
+/// The statements of a form file.
+///
+/// The refusal is `TooLong`, or that of the first token with which no list of statements begins; `Lex` where no token starts behind
+/// tokens that can be gone on with.
+pub fn read_file<'a>(alloc: Global, text: &'a [u8]) -> Result<Items<Stmt<'a>>, FormRefusal>
+    ensures found { IfOk result (λ sts. IsFile text.now sts) }
+    ensures refused { IfErr result (λ e. IsFormRefusal text.now e) }
+{
+    if text.len() > LIMIT {
+        return Err(FormRefusal::new(FormKind::TooLong, 0));
+    }
+    let (lexemes, lost) = read_tokens(alloc, text)?;
+    let tokens = lexemes.as_slice();
+    match read_statements(alloc, tokens) {
+        Err(fault) => Err(refusal_of(tokens, fault, lost)),
+        Ok(statements) => match lost {
+            None => Ok(statements),
+            Some(_) => Err(refusal_of(tokens, Fault::Short, lost)),
+        },
+    }
+}
+
+#[cfg(test)]
+mod tests;
