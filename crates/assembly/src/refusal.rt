@@ -12,7 +12,10 @@ use std::fmt;
 #[derive(Clone, Copy, Debug, PartialEq, Eq)]
 pub enum RunRefusal {
     /// On this cell the kernel asks for the reciprocal of 0, in its statement `at`.
-    Zero { cell: u32, at: u32 },
+    Zero {
+        cell: u32,
+        at: u32,
+    },
     /// On this cell the exact result of the kernel's statement `at` needs more than 127 bits.
     CellPassed {
         cell: u32,
@@ -22,7 +25,10 @@ pub enum RunRefusal {
         right: Ratio,
     },
     /// A number in the sum of the entry passes 127 bits.
-    SumPassed { row: u32, col: u32 },
+    SumPassed {
+        row: u32,
+        col: u32,
+    },
     Memory,
 }
 
@@ -30,7 +36,10 @@ impl fmt::Display for RunRefusal {
     fn fmt<W: fmt::Write>(&self, f: &mut fmt::Formatter<W>) -> fmt::Result {
         match self {
             RunRefusal::Zero { cell, .. } => write!(f, "cell {cell} has no volume"),
-            RunRefusal::CellPassed { cell, .. } => write!(f, "a step of the kernel passes on cell {cell}"),
+            RunRefusal::CellPassed { cell, .. } => write!(
+                f,
+                "a step of the kernel passes on cell {cell}"
+            ),
             RunRefusal::SumPassed { row, col } => write!(f, "the sum of entry {row} {col} passes"),
             RunRefusal::Memory => f.write_str("out of memory"),
         }

@@ -192,7 +192,7 @@ share_triples mesh c line cells triples sums = record {
   ordered = sums.ordered;
   nonzero = sums.nonzero;
   exact = λ row col. added_is_total _ _ (sums.exact row col)
-    ∙ all_cells_sum mesh c (cell_shares mesh c) mesh.cells (both (IsCell 1 (length mesh.points)) (IsMember mesh.cells) (AddsIntegrals mesh c (cell_shares mesh c)) mesh.cells (adds_integrals mesh c line) cells (all_members mesh.cells)) row col;
+      ∙ all_cells_sum mesh c (cell_shares mesh c) mesh.cells (both (IsCell 1 (length mesh.points)) (IsMember mesh.cells) (AddsIntegrals mesh c (cell_shares mesh c)) mesh.cells (adds_integrals mesh c line) cells (all_members mesh.cells)) row col;
 }
 
 -- ---- the runs
@@ -255,10 +255,11 @@ module _ (f : CFun) (c : Fraction) (planned : IsPlanned f c) (mesh : MeshData Fr
 
   becomes : (k : ℕ) (e : RunRefusal) (o : Outcome) → (outcome (ran f (coordinates_of mesh (slice_index_or mesh.cells k [])) []) ≡ o)
       → StopsFirst f mesh k e → BecomesFirst mesh c k o
-  becomes k e o is h =
-      ( h.0
-      , both (IsCell 1 (length mesh.points)) (IsGood f mesh) (IsFine mesh c) (take k mesh.cells) (good_is_fine f c planned mesh line) (front_of (IsCell 1 (length mesh.points)) mesh.cells k cells) h.1
-      , sym (run_outcome f c planned mesh line (slice_index_or mesh.cells k []) (item_of (IsCell 1 (length mesh.points)) mesh.cells k [] h.0 cells)) ∙ is)
+  becomes k e o is h = (
+    h.0,
+    both (IsCell 1 (length mesh.points)) (IsGood f mesh) (IsFine mesh c) (take k mesh.cells) (good_is_fine f c planned mesh line) (front_of (IsCell 1 (length mesh.points)) mesh.cells k cells) h.1,
+    sym (run_outcome f c planned mesh line (slice_index_or mesh.cells k []) (item_of (IsCell 1 (length mesh.points)) mesh.cells k [] h.0 cells)) ∙ is,
+  )
 
   -- why the assembly refuses is why there is no matrix of the form
   pub refuses : (e : RunRefusal) → R.Refuses f mesh e → Refuses mesh c e

@@ -71,7 +71,11 @@ fn with_digits(before: usize, digits: usize) -> usize
     requires { before ≤ 2 }
     ensures { result ≡ bytes_with_digits before digits }
 {
-    if digits == 0 { 0 } else { before + digits.min(3) }
+    if digits == 0 {
+        0
+    } else {
+        before + digits.min(3)
+    }
 }
 
 // Behind the e of an exponent: its length with the e.

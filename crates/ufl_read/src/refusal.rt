@@ -133,9 +133,7 @@ pub fn refusal_of(tokens: &[Lexeme<'_>], fault: Fault, lost: Option<LexAt>) -> F
     match fault {
         Fault::Memory => FormRefusal::new(FormKind::Memory, 0),
         Fault::Short => match lost {
-            Some(place) => {
-                FormRefusal::new(FormKind::Lex, statement_line(tokens, place.line))
-            }
+            Some(place) => { FormRefusal::new(FormKind::Lex, statement_line(tokens, place.line)) }
             None => FormRefusal::new(FormKind::Syntax, statement_line(tokens, 0)),
         },
         Fault::Wrong(at) => match peek(tokens, at) {

@@ -14,7 +14,6 @@ use sqlite_items::Items;
 use std::alloc::{AllocError, Global};
 use ufl_syntax::{AssignOp, Class, Lexeme, Stmt, Syn};
 
-
 // How many brackets, signs and `**` may be open at one token.
 const DEPTH: u32 = 64;
 
@@ -113,7 +112,16 @@ fn named<'a>(
     if let Some(op) = assign_op(sign.class) {
         let (value, end) = ended(alloc, tokens, at + 1, room)?;
         let value = Some(value);
-        return Ok((Stmt { line, targets, unpack: false, op, value }, end));
+        return Ok((
+            Stmt {
+                line,
+                targets,
+                unpack: false,
+                op,
+                value,
+            },
+            end,
+        ));
     }
     if !same(Class::Comma, sign.class) {
         return Err(Fault::Wrong(at));
@@ -121,7 +129,16 @@ fn named<'a>(
     let (targets, past) = later_targets(tokens, at + 1, targets)?;
     let (value, end) = assigned(alloc, tokens, past, room)?;
     let value = Some(value);
-    Ok((Stmt { line, targets, unpack: true, op: AssignOp::Set, value }, end))
+    Ok((
+        Stmt {
+            line,
+            targets,
+            unpack: true,
+            op: AssignOp::Set,
+            value,
+        },
+        end,
+    ))
 }
 
 // `ufl import *` and the end of the line.
@@ -173,7 +190,16 @@ fn bracketed<'a>(
     let (value, end) = assigned(alloc, tokens, past, room)?;
     let line = bracket.tok.line;
     let value = Some(value);
-    Ok((Stmt { line, targets, unpack, op: AssignOp::Set, value }, end))
+    Ok((
+        Stmt {
+            line,
+            targets,
+            unpack,
+            op: AssignOp::Set,
+            value,
+        },
+        end,
+    ))
 }
 
 // A statement, and the place after it.
@@ -194,7 +220,16 @@ fn statement<'a>(
         Class::From => {
             let end = import_rest(tokens, at + 1)?;
             let (line, targets) = (first.tok.line, Items::new(alloc));
-            Ok((Stmt { line, targets, unpack: false, op: AssignOp::ImportAll, value: None }, end))
+            Ok((
+                Stmt {
+                    line,
+                    targets,
+                    unpack: false,
+                    op: AssignOp::ImportAll,
+                    value: None,
+                },
+                end,
+            ))
         }
         _ => Err(Fault::Wrong(at)),
     }
@@ -203,10 +238,7 @@ fn statement<'a>(
 /// The statements that all the tokens are.
 ///
 /// The fault is at the first token such that no list of statements begins with the tokens up to it, or the tokens end too early.
-pub fn read_statements<'a>(
-    alloc: Global,
-    tokens: &[Lexeme<'a>],
-) -> Result<Items<Stmt<'a>>, Fault>
+pub fn read_statements<'a>(alloc: Global, tokens: &[Lexeme<'a>]) -> Result<Items<Stmt<'a>>, Fault>
     ensures found { IfOk result (λ sts. File DEPTH tokens.now sts []) }
     ensures only { IfOk result (λ sts. (xs : List Stmt) → File DEPTH tokens.now xs [] → sts ≡ xs) }
     ensures refused { IfErr result (λ f. IsRefusal DEPTH tokens.now f) }

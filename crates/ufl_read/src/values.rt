@@ -8,17 +8,15 @@ ghost use Rattle.ufl_syntax.specs.Machine.{a_value, a_later, a_sum, a_term, a_si
 ghost use Rattle.ufl_syntax.specs.declared.tree.Syn.{Syn};
 ghost use Rattle.ufl_read.specs.Reads.{Reads};
 
-use crate::tokens::{Fault, deeper, expect, expect_name, factors, follows, keyed, peek, same, signs, starts};
+use crate::tokens::{
+    Fault, deeper, expect, expect_name, factors, follows, keyed, peek, same, signs, starts,
+};
 use sqlite_items::{Boxed, Items};
 use std::alloc::{AllocError, Global};
 use ufl_syntax::{Arg, Class, Lexeme, Next, Post, Syn};
 
 // A chain of one part is that part.
-fn chained<'a>(
-    alloc: Global,
-    first: Syn<'a>,
-    chain: Items<Next<'a>>,
-) -> Result<Syn<'a>, AllocError>
+fn chained<'a>(alloc: Global, first: Syn<'a>, chain: Items<Next<'a>>) -> Result<Syn<'a>, AllocError>
     ensures { IfOk result (λ e. e ≡ as_chain first.entry chain.entry) }
 {
     if chain.is_empty() {

@@ -169,7 +169,12 @@ fn word_class(word: &[u8]) -> Class
     if is_spelled(word, b"import") {
         return Class::Import;
     }
-    if keyword_of_two(word) || keyword_of_three(word) || keyword_of_four(word) || keyword_of_five(word) || longer_keyword(word) {
+    if keyword_of_two(word)
+        || keyword_of_three(word)
+        || keyword_of_four(word)
+        || keyword_of_five(word)
+        || longer_keyword(word)
+    {
         return Class::Foreign;
     }
     Class::Name(false)

@@ -219,7 +219,10 @@ fn reads_statements_or_refuses(rt: HostRuntime) -> Result<(), Fail> {
         ("a = [u,]", "1 a = [u]"),
         ("a = [u, (v, w)]", "1 a = [u (v w)]"),
         ("a = '#', \"it's\"", "1 a = ('#' \"it's\")"),
-        ("a = 1., .5, 1e3, 1.5E-30, 10e+1", "1 a = (1. .5 1e3 1.5E-30 10e+1)"),
+        (
+            "a = 1., .5, 1e3, 1.5E-30, 10e+1",
+            "1 a = (1. .5 1e3 1.5E-30 10e+1)",
+        ),
         ("a = 1e1234", "Syntax 1"),
         ("a = 1e", "Syntax 1"),
         ("a = 1.dx", "Syntax 1"),

@@ -16,9 +16,9 @@ pub returns-in-Zero-clause-refusal : goal.returns-in-Zero-clause-refusal
 returns-in-Zero-clause-refusal c =
     let m = fractions c.args.mesh.now in
     let here = answer_at c.args.machine.now c.args.mesh.now c.cell.result.vertices.now c.point.result.now c.point-2.result.now c.index-point-0.result c.index-point-0-2.result
-        (c.cell.ensures.cell.size ∙ ap (λ d. dimension d + 1) c.requires.kind)
-        c.point.ensures.coordinates (c.point.ensures.dimension ∙ ap dimension c.requires.kind) c.index-point-0.is
-        c.point-2.ensures.coordinates (c.point-2.ensures.dimension ∙ ap dimension c.requires.kind) c.index-point-0-2.is in
+    (c.cell.ensures.cell.size ∙ ap (λ d. dimension d + 1) c.requires.kind)
+    c.point.ensures.coordinates (c.point.ensures.dimension ∙ ap dimension c.requires.kind) c.index-point-0.is
+    c.point-2.ensures.coordinates (c.point-2.ensures.dimension ∙ ap dimension c.requires.kind) c.index-point-0-2.is in
     let P : Answer → Type 0 = λ a. StopsAt a (refusal.Zero c.args.k c.in-Zero.at) in
     let Q : List ℕ → Type 0 = λ cell. StopsAt (answer_on c.args.machine.now m cell) (refusal.Zero c.args.k c.in-Zero.at) in
     (refl, subst Q (sym (get_or_from_slice_get c.args.mesh.now.cells c.args.k _ [] c.cell.ensures.vertices)) (subst P (c.in-Zero.ensures.meaning ∙ here) refl))
@@ -27,9 +27,9 @@ pub returns-in-Passed-clause-refusal : goal.returns-in-Passed-clause-refusal
 returns-in-Passed-clause-refusal c =
     let m = fractions c.args.mesh.now in
     let here = answer_at c.args.machine.now c.args.mesh.now c.cell.result.vertices.now c.point.result.now c.point-2.result.now c.index-point-0.result c.index-point-0-2.result
-        (c.cell.ensures.cell.size ∙ ap (λ d. dimension d + 1) c.requires.kind)
-        c.point.ensures.coordinates (c.point.ensures.dimension ∙ ap dimension c.requires.kind) c.index-point-0.is
-        c.point-2.ensures.coordinates (c.point-2.ensures.dimension ∙ ap dimension c.requires.kind) c.index-point-0-2.is in
+    (c.cell.ensures.cell.size ∙ ap (λ d. dimension d + 1) c.requires.kind)
+    c.point.ensures.coordinates (c.point.ensures.dimension ∙ ap dimension c.requires.kind) c.index-point-0.is
+    c.point-2.ensures.coordinates (c.point-2.ensures.dimension ∙ ap dimension c.requires.kind) c.index-point-0-2.is in
     let P : Answer → Type 0 = λ a. StopsAt a (refusal.CellPassed c.args.k c.in-Passed.at c.in-Passed.op c.in-Passed.left c.in-Passed.right) in
     let Q : List ℕ → Type 0 = λ cell. StopsAt (answer_on c.args.machine.now m cell) (refusal.CellPassed c.args.k c.in-Passed.at c.in-Passed.op c.in-Passed.left c.in-Passed.right) in
     (refl, subst Q (sym (get_or_from_slice_get c.args.mesh.now.cells c.args.k _ [] c.cell.ensures.vertices)) (subst P (c.in-Passed.ensures.meaning ∙ here) (refl, refl, refl, refl)))
@@ -38,9 +38,9 @@ pub returns-clause-good : goal.returns-clause-good
 returns-clause-good c =
     let m = fractions c.args.mesh.now in
     let here = answer_at c.args.machine.now c.args.mesh.now c.cell.result.vertices.now c.point.result.now c.point-2.result.now c.index-point-0.result c.index-point-0-2.result
-        (c.cell.ensures.cell.size ∙ ap (λ d. dimension d + 1) c.requires.kind)
-        c.point.ensures.coordinates (c.point.ensures.dimension ∙ ap dimension c.requires.kind) c.index-point-0.is
-        c.point-2.ensures.coordinates (c.point-2.ensures.dimension ∙ ap dimension c.requires.kind) c.index-point-0-2.is in
+    (c.cell.ensures.cell.size ∙ ap (λ d. dimension d + 1) c.requires.kind)
+    c.point.ensures.coordinates (c.point.ensures.dimension ∙ ap dimension c.requires.kind) c.index-point-0.is
+    c.point-2.ensures.coordinates (c.point-2.ensures.dimension ∙ ap dimension c.requires.kind) c.index-point-0-2.is in
     let Q : List ℕ → Type 0 = λ cell. IsGood c.args.machine.now m cell in
     subst Q (sym (get_or_from_slice_get c.args.mesh.now.cells c.args.k _ [] c.cell.ensures.vertices)) (sym (ap is_good (c.in-Good.ensures.meaning ∙ here)))
 
@@ -48,9 +48,9 @@ pub returns-clause-added : goal.returns-clause-added
 returns-clause-added c =
     let m = fractions c.args.mesh.now in
     let here = answer_at c.args.machine.now c.args.mesh.now c.cell.result.vertices.now c.point.result.now c.point-2.result.now c.index-point-0.result c.index-point-0-2.result
-        (c.cell.ensures.cell.size ∙ ap (λ d. dimension d + 1) c.requires.kind)
-        c.point.ensures.coordinates (c.point.ensures.dimension ∙ ap dimension c.requires.kind) c.index-point-0.is
-        c.point-2.ensures.coordinates (c.point-2.ensures.dimension ∙ ap dimension c.requires.kind) c.index-point-0-2.is in
+    (c.cell.ensures.cell.size ∙ ap (λ d. dimension d + 1) c.requires.kind)
+    c.point.ensures.coordinates (c.point.ensures.dimension ∙ ap dimension c.requires.kind) c.index-point-0.is
+    c.point-2.ensures.coordinates (c.point-2.ensures.dimension ∙ ap dimension c.requires.kind) c.index-point-0-2.is in
     let P : List ℕ → Type 0 = λ cell. Adds (cell_entries c.args.machine.now m cell) c.args.sums.now c.add_local.new.self in
     subst P (sym (get_or_from_slice_get c.args.mesh.now.cells c.args.k _ [] c.cell.ensures.vertices))
     (cell_adds (row_of c.args.mesh.now.cells) c.cell.result.vertices.now _ _ _ _ c.args.sums.now c.add_local.new.self

@@ -21,12 +21,12 @@ loop-k-preserved c =
     let same : c.loop-k.machine ≡ f = c.loop-k.invariant.function in
     let good : IsGood f m (get_or c.args.mesh.now.cells c.loop-k.k []) = subst (λ (g : CFun). IsGood g m (get_or c.args.mesh.now.cells c.loop-k.k [])) same c.in_ok-add_cell.ensures.good in
     let added : Adds (cell_entries f m (get_or c.args.mesh.now.cells c.loop-k.k [])) c.loop-k.sums c.add_cell.new.sums =
-        subst (λ (g : CFun). Adds (cell_entries g m (get_or c.args.mesh.now.cells c.loop-k.k [])) c.loop-k.sums c.add_cell.new.sums) same c.in_ok-add_cell.ensures.added in
+    subst (λ (g : CFun). Adds (cell_entries g m (get_or c.args.mesh.now.cells c.loop-k.k [])) c.loop-k.sums c.add_cell.new.sums) same c.in_ok-add_cell.ensures.added in
     record {
       function = c.add_cell.ensures.function ∙ same;
       good = all_more (IsGood f m) c.args.mesh.now.cells c.loop-k.k [] (omega (arith, c.cells-k-end.ensures)) c.loop-k.invariant.good good;
       added = λ new later. c.loop-k.invariant.added new
-        (cells_more (cell_entries f m) c.args.mesh.now.cells c.loop-k.k c.loop-k.sums c.add_cell.new.sums new (omega (arith, c.cells-k-end.ensures)) added later);
+          (cells_more (cell_entries f m) c.args.mesh.now.cells c.loop-k.k c.loop-k.sums c.add_cell.new.sums new (omega (arith, c.cells-k-end.ensures)) added later);
     }
 
 pub returns-in_err-add_cell : goal.returns-in_err-add_cell
@@ -43,7 +43,7 @@ returns c =
     let all : length c.args.mesh.now.cells ≤ c.loop-k.k = omega (arith, c.cells-k-end.ensures) in
     let good = subst (AllByRecursion (IsGood f m)) (take_all c.loop-k.k c.args.mesh.now.cells all) c.loop-k.invariant.good in
     let sums = totals (run_entries f m) c.new-sums.result c.loop-k.sums c.new-sums.ensures
-        (c.loop-k.invariant.added c.loop-k.sums (cells_end (cell_entries f m) c.args.mesh.now.cells c.loop-k.k c.loop-k.sums all)) in
+    (c.loop-k.invariant.added c.loop-k.sums (cells_end (cell_entries f m) c.args.mesh.now.cells c.loop-k.k c.loop-k.sums all)) in
     record {
       sums = IfOk-weaker c.triples.result _ _ (λ ts h. subst (AreSums (run_entries f m)) (sym h.0) (sums_are (run_entries f m) c.loop-k.sums.entries.entries c.triples.ensures.ordered h.1 sums)) c.triples.ensures.ok;
       good = IfOk-weaker c.triples.result _ _ (λ ts h. good) c.triples.ensures.ok;

@@ -12,5 +12,5 @@ invariant-loop-k l = record {
   function : l.machine ≡ l.fn.f;
   good : AllByRecursion (IsGood l.fn.f (fractions l.mesh)) (take l.k l.mesh.cells);
   added : (new : Sums) → Adds (flat_map (cell_entries l.fn.f (fractions l.mesh)) (drop l.k l.mesh.cells)) l.sums new
-    → Adds (run_entries l.fn.f (fractions l.mesh)) l.initial.sums new;
+      → Adds (run_entries l.fn.f (fractions l.mesh)) l.initial.sums new;
 }

@@ -525,14 +525,12 @@ argument-returns t c =
 pub postfix-all-smaller : goal.postfix-all-smaller
 postfix-all-smaller t c = omega (arith, c.in-Some.ensures.1, c.in_ok-one.ensures.0)
 
-
 pub atom-returns-in-Text : goal.atom-returns-in-Text
 atom-returns-in-Text t c = (
   omega arith,
   subst (λ ts. Atom c.args.room ts (s.Text c.in-Some.first.tok) (drop (c.args.at + 1) c.args.tokens.now)) (sym c.in-Some.ensures.0) (a_text c.in-Text.is),
   λ stack. take_at (an_atom c.args.room) stack _ c.in-Some.first _ [] c.in-Some.ensures.0 (ap (λ j. part_on (an_atom c.args.room) j) c.in-Text.is),
 )
-
 
 pub atom-returns-in_err-inside-in-OpenList : goal.atom-returns-in_err-inside-in-OpenList
 atom-returns-in_err-inside-in-OpenList t c =
