@@ -1,4 +1,8 @@
 pub mod SinkLaws
+pub mod MatrixLaws
+pub mod FactorLaws
 pub mod FormLaws
 pub mod WordsLaws
-pub mod MatrixLaws
+pub mod TextLaws
+pub mod LoadLaws
+pub mod AnswerLaws

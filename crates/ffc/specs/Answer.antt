@@ -1,7 +1,27 @@
 -- What a run leaves in its files and sinks
-use Rattle.std.specs.Prelude.{◌≡◌, ◌⊎◌, ℕ, List, Option, Some}
+use Rattle.std.specs.Prelude.{◌≡◌, ◌≢◌, ◌⊎◌, ◌<◌, ◌≤◌, ℕ, List, Option, Some, None, Ok, Err, length, codes}
 use Rattle.ends.specs.Count.{Rises}
 use Rattle.ends.specs.Told.{appended, TakesPrefix}
+use Rattle.std.specs.List.{AllByRecursion}
+use Rattle.algebra.specs.Fraction.{Fraction, one_fraction}
+use Rattle.ends.specs.Held.{Held, bytes_of}
+use Rattle.spaces.specs.declared.cell.Cell.TheVariants.{Interval}
+use Rattle.mesh_in.specs.MeshData.{MeshData}
+use Rattle.mesh_in.specs.MeshText.{meaning}
+use Rattle.mesh_in.specs.declared.refusal.MeshKind.TheVariants as mesh
+use Rattle.mesh_in.specs.declared.refusal.MeshRefusal.{MeshRefusal}
+use Rattle.assembly.specs.Sums.{Entry, PassesFirst}
+use Rattle.assembly.specs.Rows.{row_of}
+use Rattle.kernel.specs.MassShare.{Passes, Flat}
+use Rattle.form_values.specs.FormValues.{AreTriples}
+use Rattle.form_values.specs.Shares.{IsFine, BecomesFirst, share_entries}
+use Rattle.ffc.specs.FormFile.{first_form, parting_line}
+use Rattle.ffc.specs.Outcome.{degenerate}
+use Rattle.ffc.specs.Text.{matrix_text}
+use Rattle.ffc.specs.declared.outcome.FormKind.{FormKind}
+use Rattle.ffc.specs.declared.outcome.FormKind.TheVariants as form
+use Rattle.ffc.specs.declared.outcome.Spot.{Spot}
+use Rattle.ffc.specs.declared.outcome.Spot.TheVariants as spot
 use Rattle.ffc.specs.Words.{file_name}
 use Rattle.ffc.specs.declared.outcome.Outcome.{Outcome}
 use Rattle.ffc.specs.declared.outcome.Outcome.TheVariants.{Done, Usage, Form, Mesh, Passed, ReadFault, WriteFault, Memory}
@@ -49,3 +69,85 @@ AssembleRefused form mesh before now failed (Passed s) = Unit {0}
 AssembleRefused form mesh before now failed (ReadFault k) = FaultOf 1 form before now failed k ⊎ FaultOf 2 mesh before now failed k
 AssembleRefused form mesh before now failed Memory = Unit {0}
 AssembleRefused form mesh before now failed _ = ⊥
+
+-- the text of the file with this name; where nothing is told, any text may be
+abbrev pub IsText : Option (List Held) → List ℕ → List ℕ → Type 0
+IsText None name text = Unit {0}
+IsText (Some files) name text = bytes_of files name ≡ Some text
+
+abbrev pub form_limit : ℕ
+form_limit = 262144
+
+-- when a form is refused: it is too long, or else parts from the one that can be compiled in this line
+abbrev pub FormCause : FormKind → ℕ → List ℕ → Type 0
+FormCause form.TooLong line text = (form_limit < length text) × (line ≡ 0)
+FormCause form.NotYet line text = (length text ≤ form_limit) × (text ≢ first_form) × (line ≡ parting_line text)
+
+-- the text stands for a mesh of intervals
+abbrev pub IsIntervals : List ℕ → MeshData Fraction → Type 0
+IsIntervals text m = (meaning text ≡ Ok m) × (m.kind ≡ Interval)
+
+-- the text stands for a mesh of other cells
+abbrev pub IsWrongCell : List ℕ → MeshRefusal → Type 0
+IsWrongCell text r = (m : MeshData Fraction) × (meaning text ≡ Ok m) × (m.kind ≢ Interval) × (r.kind ≡ mesh.WrongCell)
+
+-- when a mesh is refused: by its text, or for its cells
+abbrev pub MeshCause : MeshRefusal → List ℕ → Type 0
+MeshCause r text = (meaning text ≡ Err r) ⊎ IsWrongCell text r
+
+-- the form can be compiled, and the mesh is one of intervals
+abbrev pub Accepted : Option (List Held) → List ℕ → List ℕ → MeshData Fraction → Type 0
+Accepted content form mesh m = IsText content form first_form × ((text : List ℕ) × IsText content mesh text × IsIntervals text m)
+
+-- why the mesh of intervals has no matrix
+abbrev pub RunCause : Option (List Held) → List ℕ → List ℕ → (MeshData Fraction → Type 0) → Type 0
+RunCause content form mesh Is = (m : MeshData Fraction) × Accepted content form mesh m × Is m
+
+-- this is the first cell without shares, since its ends are the same point
+abbrev pub IsFlatFirst : ℕ → MeshData Fraction → Type 0
+IsFlatFirst cell m = BecomesFirst m one_fraction cell Flat
+
+-- this is the first cell without shares, since a number in them does not fit
+abbrev pub PassesFirstOn : ℕ → MeshData Fraction → Type 0
+PassesFirstOn cell m = BecomesFirst m one_fraction cell Passes
+
+-- all cells have their shares, and this is the first entry whose shares, cells in order, can't be added up
+abbrev pub PassesFirstAt : ℕ → ℕ → MeshData Fraction → Type 0
+PassesFirstAt row col m = AllByRecursion (IsFine m one_fraction) m.cells × PassesFirst (share_entries m one_fraction) row col
+
+abbrev pub SpotCause : Option (List Held) → List ℕ → List ℕ → Spot → Type 0
+SpotCause content form mesh (spot.Cell cell) = RunCause content form mesh (PassesFirstOn cell)
+SpotCause content form mesh (spot.Sum row col) = RunCause content form mesh (PassesFirstAt row col)
+
+-- when the form alone decides
+abbrev pub FormFits : Option (List Held) → List ℕ → Outcome → Type 0
+FormFits content name (Form r) = (text : List ℕ) × IsText content name text × FormCause r.kind r.line text
+FormFits content name _ = Unit {0}
+
+-- when the mesh alone decides
+abbrev pub MeshFits : Option (List Held) → List ℕ → Outcome → Type 0
+MeshFits content name (Mesh r) = (text : List ℕ) × IsText content name text × MeshCause r text
+MeshFits content name _ = Unit {0}
+
+-- when each outcome comes, from what the files hold
+abbrev pub Cause : Option (List Held) → List ℕ → List ℕ → Outcome → Type 0
+Cause content form mesh (Form r) = (text : List ℕ) × IsText content form text × FormCause r.kind r.line text
+Cause content form mesh (Mesh r) =
+    (IsText content form first_form × ((text : List ℕ) × IsText content mesh text × MeshCause r text))
+    ⊎ ((cell : ℕ) × (r ≡ degenerate cell) × RunCause content form mesh (IsFlatFirst cell))
+Cause content form mesh (Passed s) = SpotCause content form mesh s
+Cause content form mesh Done = Unit {0}
+Cause content form mesh Usage = Unit {0}
+Cause content form mesh (ReadFault k) = Unit {0}
+Cause content form mesh WriteFault = Unit {0}
+Cause content form mesh Memory = Unit {0}
+
+-- how many rows there are: the vertices that occur in some cell
+abbrev pub row_count : MeshData Fraction → ℕ
+row_count m = row_of m.cells (length m.points)
+
+-- the text of the matrix of the form on the mesh
+abbrev pub IsAnswer : Option (List Held) → List ℕ → List ℕ → List ℕ → Type 0
+IsAnswer content form mesh text =
+    (m : MeshData Fraction) × (entries : List Entry) × Accepted content form mesh m × AllByRecursion (IsFine m one_fraction) m.cells × AreTriples m one_fraction entries
+    × (text ≡ matrix_text (codes "a") (row_count m) (row_count m) entries)

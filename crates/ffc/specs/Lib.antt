@@ -1,6 +1,7 @@
 pub mod Outcome
 pub mod Words
 pub mod FormFile
+pub mod Text
 pub mod Lines
 pub mod Answer
 pub mod Command

@@ -1,5 +1,6 @@
 -- The line on err for each outcome
 use Rattle.std.specs.Prelude.{◌≡◌, ℕ, ◌≤◌, List, [], ◌∷◌, ◌++◌, Option, codes, decimal, ◌⊎◌}
+use Rattle.ffc.specs.Text.{joined}
 use Rattle.ends.specs.Count.{Rises}
 use Rattle.ends.specs.Told.{appended, TakesPrefix}
 use Rattle.mesh_in.specs.declared.refusal.MeshKind.{MeshKind}
@@ -37,10 +38,6 @@ mesh_refusal mesh.Degenerate = codes "8 Degenerate"
 mesh_refusal mesh.TooManyEntries = codes "9 TooManyEntries"
 mesh_refusal mesh.Memory = []
 
--- the pieces one after the other
-abbrev pub joined : List (List ℕ) → List ℕ
-joined [] = []
-joined (piece ∷ pieces) = piece ++ joined pieces
 
 -- a degenerate cell is named by its number, any other fault by its line
 abbrev pub mesh_place : MeshKind → List ℕ

@@ -27,9 +27,13 @@ outcome_of_kind _ r = Mesh r
 abbrev pub mesh_outcome : MeshRefusal → Outcome
 mesh_outcome r = outcome_of_kind r.kind r
 
+-- the refusal of a mesh with a degenerate cell
+abbrev pub degenerate : ℕ → MeshRefusal
+degenerate cell = record { kind = kind.Degenerate; line = 0; cell = cell }
+
 -- a refusal of the run as the outcome
 abbrev pub run_outcome : RunRefusal → Outcome
-run_outcome (run.Zero cell at) = Mesh (record { kind = kind.Degenerate; line = 0; cell = cell })
+run_outcome (run.Zero cell at) = Mesh (degenerate cell)
 run_outcome (run.CellPassed cell at op left right) = Passed (spot.Cell cell)
 run_outcome (run.SumPassed row col) = Passed (spot.Sum row col)
 run_outcome run.Memory = Memory

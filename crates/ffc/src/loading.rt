@@ -1,7 +1,6 @@
 //! The files that a command names.
-ghost use Rattle.std.specs.Prelude.{◌≡◌, ◌+◌, ◌<◌, ◌^◌, IfOk, IfErr};
-ghost use Rattle.ends.specs.Held.{IsLoad};
-ghost use Rattle.ffc.specs.Answer.{LoadRefused};
+ghost use Rattle.std.specs.Prelude.{◌≡◌, ◌+◌, ◌<◌, ◌^◌, ℕ, List, take, IfOk, IfErr};
+ghost use Rattle.ffc.specs.Answer.{LoadRefused, IsText};
 
 use crate::outcome::Outcome;
 use ends::files::{Files, LoadError};
@@ -22,7 +21,7 @@ pub fn load<F: Files>(
     file: u8,
 ) -> Result<Vec<u8>, Outcome>
     requires { limit + 1 < 2 ^ 32 }
-    ensures ok { IfOk result (λ bytes. IsLoad (F.content files.old) name.now (limit + 1) bytes.items) }
+    ensures ok { IfOk result (λ bytes. (text : List ℕ) × IsText (F.content files.old) name.now text × (take (limit + 1) text ≡ bytes.items)) }
     ensures content { F.content files.new ≡ F.content files.old }
     ensures no_fault { IfOk result (λ _. (F.faults files.new ≡ F.faults files.old) × (F.last_failed files.new ≡ F.last_failed files.old)) }
     ensures err { IfErr result (LoadRefused file name.now (F.faults files.old) (F.faults files.new) (F.last_failed files.new)) }

@@ -6,11 +6,12 @@
 mod command;
 mod form_file;
 mod lines;
-mod loading;
 mod matrix;
+mod loading;
 mod outcome;
 mod output;
 mod program;
+
 #[cfg(test)]
 mod tests;
 

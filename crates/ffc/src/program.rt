@@ -2,19 +2,22 @@
 ghost use Rattle.std.specs.Prelude.{◌≡◌, ◌≢◌, ◌↔◌, ℕ, List, OnOk, IfOk, IfErr};
 ghost use Rattle.ends.specs.Count.{Rises};
 ghost use Rattle.ends.specs.Told.{appended, TakesPrefix};
-ghost use Rattle.ffc.specs.Words.{HaveNoShape, texts};
+ghost use Rattle.mesh_in.specs.MeshData.{IsMesh, fractions};
+ghost use Rattle.ffc.specs.FormFile.{first_form};
+ghost use Rattle.ffc.specs.Words.{HaveNoShape, texts, assemble_words};
 ghost use Rattle.ffc.specs.Lines.{Says};
-ghost use Rattle.ffc.specs.Answer.{Wrote, ReadFaultCounts, FormRefused, MeshRefused, AssembleRefused};
+ghost use Rattle.ffc.specs.Answer.{Wrote, ReadFaultCounts, FormRefused, MeshRefused, AssembleRefused, IsText, IsIntervals, FormFits, MeshFits, Cause, IsAnswer};
+
 ghost use Rattle.spaces.specs.declared.cell.Cell.TheVariants.{Interval};
 
 use crate::command::{Command, read_command};
 use crate::form_file::parting_line;
 use crate::lines::put_outcome;
-use crate::loading::{FORM_LIMIT, MESH_LIMIT, load};
 use crate::matrix::mass_matrix;
+use crate::loading::{FORM_LIMIT, MESH_LIMIT, load};
 use crate::outcome::{FormKind, FormRefusal, Outcome, Spot};
 use crate::output::push_matrix;
-use assembly::{Rows, RunRefusal, Triple};
+use assembly::Rows;
 use ends::files::Files;
 use ends::sink::Sink;
 use mesh_in::{Mesh, MeshKind, MeshRefusal, read_mesh};
@@ -27,7 +30,9 @@ const FORM_NAME: &str = "a";
 
 // Loads the form, which is the one that can be compiled.
 fn load_form<F: Files>(alloc: Global, files: &mut F, name: &str) -> Result<(), Outcome>
-    ensures no_fault { OnOk result (F.faults files.new ≡ F.faults files.old) }
+    ensures ok { OnOk result (IsText (F.content files.old) name.now first_form) }
+    ensures kept { (F.content files.new ≡ F.content files.old) × OnOk result (F.faults files.new ≡ F.faults files.old) }
+    ensures cause { IfErr result (FormFits (F.content files.old) name.now) }
     ensures err { IfErr result (FormRefused name.now (F.faults files.old) (F.faults files.new) (F.last_failed files.new)) }
 {
     let text = load(alloc, files, name, FORM_LIMIT, 1)?;
@@ -66,6 +71,9 @@ fn first_line_with_words(text: &[u8]) -> u32 {
 // Loads a mesh of intervals.
 fn load_mesh<F: Files>(alloc: Global, files: &mut F, name: &str) -> Result<Mesh, Outcome>
     ensures kind { IfOk result (λ mesh. mesh.kind ≡ Interval) }
+    ensures mesh { IfOk result IsMesh }
+    ensures ok { IfOk result (λ mesh. (text : List ℕ) × IsText (F.content files.old) name.now text × IsIntervals text (fractions mesh)) }
+    ensures cause { IfErr result (MeshFits (F.content files.old) name.now) }
     ensures err { IfErr result (MeshRefused name.now (F.faults files.old) (F.faults files.new) (F.last_failed files.new)) }
 {
     let text = load(alloc, files, name, MESH_LIMIT, 2)?;
@@ -90,7 +98,9 @@ fn assemble<F: Files>(
     form: &str,
     mesh: &str,
 ) -> Result<Vec<u8>, Outcome>
-    ensures { IfErr result (AssembleRefused form.now mesh.now (F.faults files.old) (F.faults files.new) (F.last_failed files.new)) }
+    ensures ok { IfOk result (λ text. IsAnswer (F.content files.old) form.now mesh.now text.items) }
+    ensures cause { IfErr result (Cause (F.content files.old) form.now mesh.now) }
+    ensures err { IfErr result (AssembleRefused form.now mesh.now (F.faults files.old) (F.faults files.new) (F.last_failed files.new)) }
 {
     load_form(alloc, files, form)?;
     let mesh = load_mesh(alloc, files, mesh)?;
@@ -102,12 +112,19 @@ fn assemble<F: Files>(
 }
 
 // Does what the words ask, and puts the answer.
-fn answer<F: Files, O: Sink>(alloc: Global, words: &[String], files: &mut F, out: &mut O) -> Outcome
+fn answer<F: Files, O: Sink>(
+    alloc: Global,
+    words: &[String],
+    files: &mut F,
+    out: &mut O,
+) -> Outcome
     ensures usage { (result ≡ Outcome.Usage) ↔ HaveNoShape (texts words.now) }
     ensures read_fault { ReadFaultCounts result (texts words.now)
         (F.faults files.old) (F.faults files.new) (F.last_failed files.new) }
     ensures write_fault { result ≡ Outcome.WriteFault → Rises (O.faults out.old) (O.faults out.new) }
-    ensures wrote { Wrote result (O.written out.old) (O.written out.new) (λ _. Unit {0}) }
+    ensures cause { (form mesh : List ℕ) → texts words.now ≡ assemble_words form mesh → Cause (F.content files.old) form mesh result }
+    ensures wrote { Wrote result (O.written out.old) (O.written out.new)
+        (λ text. (form mesh : List ℕ) → texts words.now ≡ assemble_words form mesh → IsAnswer (F.content files.old) form mesh text) }
 {
     let Some(Command::Assemble { form, mesh }) = read_command(words) else {
         return Outcome::Usage;
@@ -135,7 +152,9 @@ pub fn program<F: Files, O: Sink, E: Sink>(
     ensures read_fault { ReadFaultCounts result (texts words.now)
         (F.faults files.old) (F.faults files.new) (F.last_failed files.new) }
     ensures write_fault { result ≡ Outcome.WriteFault → Rises (O.faults out.old) (O.faults out.new) }
-    ensures wrote { Wrote result (O.written out.old) (O.written out.new) (λ _. Unit {0}) }
+    ensures cause { (form mesh : List ℕ) → texts words.now ≡ assemble_words form mesh → Cause (F.content files.old) form mesh result }
+    ensures wrote { Wrote result (O.written out.old) (O.written out.new)
+        (λ text. (form mesh : List ℕ) → texts words.now ≡ assemble_words form mesh → IsAnswer (F.content files.old) form mesh text) }
     ensures line { Says result (E.written err.old) (E.written err.new) (E.faults err.old) (E.faults err.new) }
 {
     let outcome = answer(alloc, words, files, out);

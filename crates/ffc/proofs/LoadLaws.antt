@@ -1,0 +1,62 @@
+-- A file of which one byte more than the limit was asked
+use Rattle.std.proofs.Common.{◌≡◌, ◌≢◌, ℕ, ◌+◌, ◌<◌, ◌≤◌, ◌⊎◌, List, Option, Ok, Err, Bool, true, false, length, take, refl, sym, ◌∙◌, ap, arith, subst, inl, inr, ⊎_elim, min, nat_le}
+use Rattle.std.proofs.lemmas.List.{length-take, take_all}
+use Rattle.std.proofs.lemmas.Bool.{lt-leb}
+use Rattle.algebra.specs.Fraction.{Fraction}
+use Rattle.ends.specs.Held.{Held}
+use Rattle.mesh_in.specs.MeshText.{meaning, longest}
+use Rattle.mesh_in.specs.Refusal.{out_of_memory}
+use Rattle.mesh_in.specs.declared.refusal.MeshKind.{MeshKind}
+use Rattle.mesh_in.specs.declared.refusal.MeshKind.TheVariants as kind
+use Rattle.mesh_in.specs.declared.refusal.MeshRefusal.{MeshRefusal}
+use Rattle.ffc.specs.Answer.{IsText, MeshFits}
+use Rattle.ffc.specs.Outcome.{mesh_outcome, outcome_of_kind}
+use Rattle.ffc.specs.declared.outcome.Outcome.{Outcome}
+
+-- the extra byte is there
+pub too_long : (text bytes : List ℕ) (n : ℕ) → take (n + 1) text ≡ bytes → n < length bytes → n < length text
+too_long text bytes n e h = let f : length bytes ≡ min (n + 1) (length text) = ap length (sym e) ∙ length-take (n + 1) text in omega (arith, f)
+
+-- it isn't, so the bytes are the text
+pub whole : (text bytes : List ℕ) (n : ℕ) → take (n + 1) text ≡ bytes → length bytes ≤ n → bytes ≡ text
+whole text bytes n e h =
+    let f : length bytes ≡ min (n + 1) (length text) = ap length (sym e) ∙ length-take (n + 1) text in
+    let g : length text ≤ n + 1 = omega (arith, f) in
+    sym e ∙ take_all (n + 1) text g
+
+size : (n : ℕ) (xs : List ℕ) → (length xs ≤ n) ⊎ (n < length xs)
+size n xs = grind arith
+
+-- a text that is too long has no other meaning
+pub same_meaning : (text bytes : List ℕ) → take (longest + 1) text ≡ bytes → meaning bytes ≡ meaning text
+unfolding meaning
+same_meaning text bytes e =
+    ⊎_elim
+    (λ (h : length bytes ≤ longest). ap meaning (whole text bytes longest e h))
+    (λ (h : longest < length bytes).
+    let k : longest < length text = too_long text bytes longest e h in
+    let a : nat_le (length bytes) longest ≡ false = lt-leb _ _ h in
+    let b : nat_le (length text) longest ≡ false = lt-leb _ _ k in
+    rw (a, b) refl)
+    (size longest bytes)
+
+by_kind : (content : Option (List Held)) (name text : List ℕ) (r : MeshRefusal) (k : MeshKind) → IsText content name text → meaning text ≡ Err r → MeshFits content name (outcome_of_kind k r)
+by_kind content name text r kind.TooLong t e = (text, t, inl e)
+by_kind content name text r kind.Lex t e = (text, t, inl e)
+by_kind content name text r kind.Syntax t e = (text, t, inl e)
+by_kind content name text r kind.Count t e = (text, t, inl e)
+by_kind content name text r kind.VertexRange t e = (text, t, inl e)
+by_kind content name text r kind.RepeatedVertex t e = (text, t, inl e)
+by_kind content name text r kind.WrongCell t e = (text, t, inl e)
+by_kind content name text r kind.Degenerate t e = (text, t, inl e)
+by_kind content name text r kind.TooManyEntries t e = (text, t, inl e)
+by_kind content name text r kind.Memory t e = tt
+
+-- a refusal of the text as the outcome
+pub mesh_fits : (content : Option (List Held)) (name text bytes : List ℕ) (r : MeshRefusal) (o : Outcome) → IsText content name text → meaning bytes ≡ meaning text → (r ≡ out_of_memory) ⊎ (meaning bytes ≡ Err r) → o ≡ mesh_outcome r → MeshFits content name o
+mesh_fits content name text bytes r o t same c e =
+    subst (MeshFits content name) (sym e)
+    (⊎_elim
+    (λ (m : r ≡ out_of_memory). subst (λ (s : MeshRefusal). MeshFits content name (mesh_outcome s)) (sym m) tt)
+    (λ (m : meaning bytes ≡ Err r). by_kind content name text r r.kind t (sym same ∙ m))
+    c)
