@@ -17,6 +17,7 @@ small_one : 384 * 1 < 2 ^ 100
 small_one = lit< tt
 
 pub one_is_small : (c : Fraction) → c ≡ one_fraction → IsSmallFactor c
-one_is_small c e =
-    ( subst (λ n. 384 * n < 2 ^ 100) (sym (ap (λ x. unsigned_abs (top x)) e ∙ top_of_one)) small_one
-    , subst (λ n. 384 * n < 2 ^ 100) (sym (ap bottom e ∙ bottom_of_one)) small_one)
+one_is_small c e = (
+  subst (λ n. 384 * n < 2 ^ 100) (sym (ap (λ x. unsigned_abs (top x)) e ∙ top_of_one)) small_one,
+  subst (λ n. 384 * n < 2 ^ 100) (sym (ap bottom e ∙ bottom_of_one)) small_one,
+)

@@ -22,7 +22,7 @@ puts_part start now new f g line piece rest (front, is, told, same) (n, short, e
     let size : length line ≡ length front + length (piece ++ rest) = ap length is ∙ length-append front (piece ++ rest) in
     let size_2 : length (piece ++ rest) ≡ length piece + length rest = length-append piece rest in
     let cut : take (length front + n) line ≡ front ++ take n piece =
-        ap (λ l. take (length front + n) l) is ∙ take-append-add front (piece ++ rest) n ∙ ap (λ l. front ++ l) (take-append-le n piece rest short) in
+    ap (λ l. take (length front + n) l) is ∙ take-append-add front (piece ++ rest) n ∙ ap (λ l. front ++ l) (take-append-le n piece rest short) in
     (length front + n, omega (arith, size, size_2, short), e ∙ ap (λ o. appended o (take n piece)) told ∙ appended_twice start front (take n piece) ∙ ap (appended start) (sym cut))
 
 here : (parts : List Part) (i : ℕ) (d : Part) → i < length parts → flat_map part_text (drop i parts) ≡ part_text (get_or parts i d) ++ flat_map part_text (drop (i + 1) parts)

@@ -38,7 +38,6 @@ mesh_refusal mesh.Degenerate = codes "8 Degenerate"
 mesh_refusal mesh.TooManyEntries = codes "9 TooManyEntries"
 mesh_refusal mesh.Memory = []
 
-
 -- a degenerate cell is named by its number, any other fault by its line
 abbrev pub mesh_place : MeshKind → List ℕ
 mesh_place mesh.Degenerate = codes "mesh cell "

@@ -17,8 +17,7 @@ pub fn read_command(words: &[String]) -> Option<Command<'_>>
 {
     match words {
         [verb, form, name, mesh, data]
-            if verb.as_str() == "assemble" && name.as_str() == "a" && data.as_str() == "-" =>
-        {
+            if verb.as_str() == "assemble" && name.as_str() == "a" && data.as_str() == "-" => {
             Some(Command::Assemble {
                 form: form.as_str(),
                 mesh: mesh.as_str(),

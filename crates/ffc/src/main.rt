@@ -6,12 +6,11 @@
 mod command;
 mod form_file;
 mod lines;
-mod matrix;
 mod loading;
+mod matrix;
 mod outcome;
 mod output;
 mod program;
-
 #[cfg(test)]
 mod tests;
 

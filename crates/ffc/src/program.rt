@@ -7,14 +7,13 @@ ghost use Rattle.ffc.specs.FormFile.{first_form};
 ghost use Rattle.ffc.specs.Words.{HaveNoShape, texts, assemble_words};
 ghost use Rattle.ffc.specs.Lines.{Says};
 ghost use Rattle.ffc.specs.Answer.{Wrote, ReadFaultCounts, FormRefused, MeshRefused, AssembleRefused, IsText, IsIntervals, FormFits, MeshFits, Cause, IsAnswer};
-
 ghost use Rattle.spaces.specs.declared.cell.Cell.TheVariants.{Interval};
 
 use crate::command::{Command, read_command};
 use crate::form_file::parting_line;
 use crate::lines::put_outcome;
-use crate::matrix::mass_matrix;
 use crate::loading::{FORM_LIMIT, MESH_LIMIT, load};
+use crate::matrix::mass_matrix;
 use crate::outcome::{FormKind, FormRefusal, Outcome, Spot};
 use crate::output::push_matrix;
 use assembly::Rows;
@@ -112,12 +111,7 @@ fn assemble<F: Files>(
 }
 
 // Does what the words ask, and puts the answer.
-fn answer<F: Files, O: Sink>(
-    alloc: Global,
-    words: &[String],
-    files: &mut F,
-    out: &mut O,
-) -> Outcome
+fn answer<F: Files, O: Sink>(alloc: Global, words: &[String], files: &mut F, out: &mut O) -> Outcome
     ensures usage { (result ≡ Outcome.Usage) ↔ HaveNoShape (texts words.now) }
     ensures read_fault { ReadFaultCounts result (texts words.now)
         (F.faults files.old) (F.faults files.new) (F.last_failed files.new) }

@@ -83,10 +83,38 @@ fn ends_as_the_worked_rows_say(rt: HostRuntime) -> Result<(), Fail> {
             "",
             "form line 4 refusal 16 NotYet\n",
         ),
-        (words, MASS, "mesh 1 interval 2 1\n1\n1\n0 1\n", 4, "", "mesh cell 0 refusal 8 Degenerate\n"),
-        (words, MASS, "mesh 1 interval 2 1\n0\n2\n0 2\n", 4, "", "mesh line 4 refusal 5 VertexRange\n"),
-        (words, MASS, "# flat\nmesh 1 triangle 0 0\n", 4, "", "mesh line 2 refusal 7 WrongCell\n"),
-        (words, MASS, "mesh 1 interval 1 0\n7\n", 0, "form a rank 2 rows 0 columns 0\n", ""),
+        (
+            words,
+            MASS,
+            "mesh 1 interval 2 1\n1\n1\n0 1\n",
+            4,
+            "",
+            "mesh cell 0 refusal 8 Degenerate\n",
+        ),
+        (
+            words,
+            MASS,
+            "mesh 1 interval 2 1\n0\n2\n0 2\n",
+            4,
+            "",
+            "mesh line 4 refusal 5 VertexRange\n",
+        ),
+        (
+            words,
+            MASS,
+            "# flat\nmesh 1 triangle 0 0\n",
+            4,
+            "",
+            "mesh line 2 refusal 7 WrongCell\n",
+        ),
+        (
+            words,
+            MASS,
+            "mesh 1 interval 1 0\n7\n",
+            0,
+            "form a rank 2 rows 0 columns 0\n",
+            "",
+        ),
     ];
     for (words, form, mesh, status, out, err) in table {
         let call = Call {

@@ -17,7 +17,13 @@ returns-in-Interval-clause-ok g c =
 
 pub returns-clause-cause : goal.returns-clause-cause
 returns-clause-cause g c =
-    let t = c.in_ok-text.ensures.ok in
-    (t.0, t.1, inr (fractions c.in-Ok.mesh
-    , sym (ap meaning c.as_slice.ensures.value ∙ same_meaning t.0 c.in_ok-text.text.items t.2) ∙ c.in-Ok.ensures.exact
-    , (λ e. c.in_default.not-Interval (c.kind.ensures.kind ∙ e)), refl))
+    let t = c.in_ok-text.ensures.ok in (
+      t.0,
+      t.1,
+      inr (
+        fractions c.in-Ok.mesh,
+        sym (ap meaning c.as_slice.ensures.value ∙ same_meaning t.0 c.in_ok-text.text.items t.2) ∙ c.in-Ok.ensures.exact,
+        (λ e. c.in_default.not-Interval (c.kind.ensures.kind ∙ e)),
+        refl,
+      ),
+    )
