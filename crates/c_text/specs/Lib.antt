@@ -2,3 +2,5 @@ pub mod Pieces
 pub mod Layout
 pub mod Appends
 pub mod Parts
+pub mod Stream
+pub mod Parser

@@ -4,7 +4,10 @@
 //! definitions of `specs/`, and `docs/KERNEL_TEXT.md` describes both.
 #![tactic(auto)]
 
+mod parser;
 mod print;
+mod refusal;
 
 pub use c_unit::{Array, CFun, CStmt, CUnit, Op, Place, Slot};
 pub use print::print_unit;
+pub use refusal::{KernelKind, KernelRefusal};
