@@ -1,3 +1,4 @@
 pub mod Texts
 pub mod Appended
 pub mod ReadLaws
+pub mod NumberLaws

@@ -4,3 +4,4 @@ pub mod Appends
 pub mod Parts
 pub mod Stream
 pub mod Parser
+pub mod Numbers
