@@ -12,6 +12,8 @@ mod print;
 mod read;
 mod refusal;
 mod statement;
+#[cfg(test)]
+mod tests;
 
 pub use c_unit::{Array, CFun, CStmt, CUnit, Op, Place, Slot};
 pub use print::print_unit;
