@@ -5,3 +5,8 @@ pub mod Parts
 pub mod Stream
 pub mod Parser
 pub mod Numbers
+pub mod Places
+pub mod Lowest
+pub mod Fractions
+pub mod Statements
+pub mod Units

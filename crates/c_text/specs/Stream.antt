@@ -87,3 +87,12 @@ expects [] s = Ok (tt, s)
 expects (w ∷ ws) s = do
   t ← expect w s
   expects ws t.1
+
+-- As long as the test holds, one more is read on top of what there is, at most so many times.
+unfoldable pub repeat : {A : Type 0} → (Stream → Bool) → (A → Stream → Read A) → ℕ → A → Stream → Read A
+repeat more one zero a s = Ok (a, s)
+repeat more one (suc n) a s = if more s then (one a s >>= λ x. repeat more one n x.0 x.1) else Ok (a, s)
+
+-- the next token is this one
+abbrev pub is_ahead : List ℕ → Stream → Bool
+is_ahead word s = bytes_eq (text_ahead s) word

@@ -1,6 +1,10 @@
 // Fractions and tables.
 
 ghost use Rattle.std.specs.Prelude.{◌≡◌, ◌<◌, ◌≤◌, OnOk};
+ghost use Rattle.c_text.specs.Stream.{Gives};
+ghost use Rattle.c_text.specs.Parser.{stream, left};
+ghost use Rattle.c_text.specs.Lowest.{fraction_from};
+ghost use Rattle.c_text.specs.Fractions.{sign_at, half_at, part_at, fraction_at, item_at, further_item_at, further_items_at, items_at, table_name_at, table_at, tables_at};
 
 use ratio::Ratio;
 use sqlite_items::Items;
@@ -18,6 +22,7 @@ pub const LARGEST: u32 = 0x100_0000;
 
 // The fraction of these parts, where they are below 2^127, in lowest terms and no negative zero.
 fn fraction_of_parts(negative: bool, top: u128, bottom: u128) -> Option<Ratio>
+    ensures { result ≡ fraction_from negative top bottom }
 {
     if bottom == 0 || top >= LIMIT || bottom >= LIMIT || (negative && top == 0) {
         return None;
@@ -30,7 +35,11 @@ fn fraction_of_parts(negative: bool, top: u128, bottom: u128) -> Option<Ratio>
 
 impl<'a> Parser<'a> {
     // Whether the fraction is negative.
-    fn sign(&mut self) -> Result<bool, ReadFault> {
+    #[tactic(auto, unfolding(crate::specs::Fractions::sign_at))]
+    fn sign(&mut self) -> Result<bool, ReadFault>
+        ensures read { Gives (λ x. x) result (stream self.new) (sign_at (stream self.old)) }
+        ensures shorter { OnOk result (left self.new < left self.old) }
+    {
         let token = self.shift()?;
         match token.text {
             b"0" => Ok(false),
@@ -40,7 +49,11 @@ impl<'a> Parser<'a> {
     }
 
     // A number below 2^64 behind a comma, and its line.
-    fn half(&mut self) -> Result<(u64, u32), ReadFault> {
+    #[tactic(auto, unfolding(crate::specs::Fractions::half_at))]
+    fn half(&mut self) -> Result<(u64, u32), ReadFault>
+        ensures read { Gives (λ x. x) result (stream self.new) (half_at (stream self.old)) }
+        ensures shorter { OnOk result (left self.new < left self.old) }
+    {
         self.expect(b",")?;
         let token = self.shift()?;
         match half(token.text) {
@@ -50,14 +63,22 @@ impl<'a> Parser<'a> {
     }
 
     // A part of a fraction, and the line of its second half.
-    fn part(&mut self) -> Result<(u128, u32), ReadFault> {
+    #[tactic(auto, unfolding(crate::specs::Fractions::part_at))]
+    fn part(&mut self) -> Result<(u128, u32), ReadFault>
+        ensures read { Gives (λ x. x) result (stream self.new) (part_at (stream self.old)) }
+        ensures shorter { OnOk result (left self.new < left self.old) }
+    {
         let (high, _line) = self.half()?;
         let (low, line) = self.half()?;
         Ok(((high as u128) * 0x1_0000_0000_0000_0000 + low as u128, line))
     }
 
     /// The sign and the four halves of a fraction.
-    pub fn fraction(&mut self) -> Result<Ratio, ReadFault> {
+    #[tactic(auto, unfolding(crate::specs::Fractions::fraction_at))]
+    pub fn fraction(&mut self) -> Result<Ratio, ReadFault>
+        ensures read { Gives (λ x. x) result (stream self.new) (fraction_at (stream self.old)) }
+        ensures shorter { OnOk result (left self.new < left self.old) }
+    {
         let negative = self.sign()?;
         let (top, _line) = self.part()?;
         let (bottom, line) = self.part()?;
@@ -68,30 +89,62 @@ impl<'a> Parser<'a> {
     }
 
     // An item of a table.
-    fn item(&mut self) -> Result<Ratio, ReadFault> {
+    #[tactic(auto, unfolding(crate::specs::Fractions::item_at))]
+    fn item(&mut self) -> Result<Ratio, ReadFault>
+        ensures read { Gives (λ x. x) result (stream self.new) (item_at (stream self.old)) }
+        ensures shorter { OnOk result (left self.new < left self.old) }
+    {
         self.expect(b"{")?;
         let value = self.fraction()?;
         self.expect(b"}")?;
         Ok(value)
     }
 
-    fn items(&mut self, alloc: Global) -> Result<Items<Ratio>, ReadFault> {
-        let mut items = Items::new(alloc);
-        if self.next_is(b"}") {
-            return Ok(items);
-        }
-        items.push(self.item()?)?;
+    // An item behind a comma.
+    #[tactic(auto, unfolding(crate::specs::Fractions::further_item_at))]
+    fn further_item(&mut self) -> Result<Ratio, ReadFault>
+        ensures read { Gives (λ x. x) result (stream self.new) (further_item_at (stream self.old)) }
+        ensures shorter { OnOk result (left self.new < left self.old) }
+    {
+        self.expect(b",")?;
+        self.item()
+    }
+
+    #[tactic(auto, unfolding(crate::specs::Fractions::further_items_at))]
+    fn further_items(&mut self, first: Items<Ratio>) -> Result<Items<Ratio>, ReadFault>
+        ensures read { Gives (λ x. x) result (stream self.new) (further_items_at first.entry (stream self.old)) }
+        ensures shorter { OnOk result (left self.new ≤ left self.old) }
+    {
+        let mut items = first;
         'all: loop {
             if !self.next_is(b",") {
                 return Ok(items);
             }
-            self.expect(b",")?;
-            items.push(self.item()?)?;
+            let item = self.further_item()?;
+            items.push(item)?;
         }
     }
 
+    #[tactic(auto, unfolding(crate::specs::Fractions::items_at))]
+    fn items(&mut self, alloc: Global) -> Result<Items<Ratio>, ReadFault>
+        ensures read { Gives (λ x. x) result (stream self.new) (items_at (stream self.old)) }
+        ensures shorter { OnOk result (left self.new ≤ left self.old) }
+    {
+        let mut items = Items::new(alloc);
+        if self.next_is(b"}") {
+            return Ok(items);
+        }
+        let item = self.item()?;
+        items.push(item)?;
+        self.further_items(items)
+    }
+
     // The name of the table with this number.
-    fn table_name(&mut self, number: usize) -> Result<(), ReadFault> {
+    #[tactic(auto, unfolding(crate::specs::Fractions::table_name_at))]
+    fn table_name(&mut self, number: usize) -> Result<(), ReadFault>
+        ensures read { Gives (λ x. x) result (stream self.new) (table_name_at number (stream self.old)) }
+        ensures shorter { OnOk result (left self.new < left self.old) }
+    {
         let token = self.shift()?;
         match table_number(token.text) {
             Some(found) if found as usize == number => Ok(()),
@@ -99,7 +152,11 @@ impl<'a> Parser<'a> {
         }
     }
 
-    fn table(&mut self, alloc: Global, number: usize) -> Result<Items<Ratio>, ReadFault> {
+    #[tactic(auto, unfolding(crate::specs::Fractions::table_at))]
+    fn table(&mut self, alloc: Global, number: usize) -> Result<Items<Ratio>, ReadFault>
+        ensures read { Gives (λ x. x) result (stream self.new) (table_at number (stream self.old)) }
+        ensures shorter { OnOk result (left self.new < left self.old) }
+    {
         self.expect_all(&[b"static", b"const", b"fr_lit"])?;
         self.table_name(number)?;
         self.expect(b"[")?;
@@ -116,7 +173,11 @@ impl<'a> Parser<'a> {
     }
 
     /// The tables of a function.
-    pub fn tables(&mut self, alloc: Global) -> Result<Items<Items<Ratio>>, ReadFault> {
+    #[tactic(auto, unfolding(crate::specs::Fractions::tables_at))]
+    pub fn tables(&mut self, alloc: Global) -> Result<Items<Items<Ratio>>, ReadFault>
+        ensures read { Gives (λ x. x) result (stream self.new) (tables_at (stream self.old)) }
+        ensures shorter { OnOk result (left self.new ≤ left self.old) }
+    {
         let mut tables = Items::new(alloc);
         'all: loop {
             if !self.next_is(b"static") {

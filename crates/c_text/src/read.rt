@@ -1,10 +1,13 @@
 // Functions and units.
 
-ghost use Rattle.std.specs.Prelude.{◌≡◌, ◌<◌, ◌≤◌, OnOk};
+ghost use Rattle.std.specs.Prelude.{◌≡◌, ◌<◌, ◌≤◌, OnOk, IfOk, option_map};
+ghost use Rattle.c_text.specs.Stream.{Gives};
+ghost use Rattle.c_text.specs.Parser.{stream, left};
+ghost use Rattle.c_text.specs.Units.{without_suffix as front_of, is_among as is_name_of_one, name_at, size_at, named_size_at, repeated_at, signature_at, slots_at, end_at, sizes_at, function_at, functions_at, is_more as is_more_ahead, is_lex, reading, Answers, IsRead};
 
 use c_unit::{CFun, CUnit};
 use sqlite_items::Items;
-use std::alloc::{AllocError, Global};
+use std::alloc::Global;
 
 use crate::fraction::LARGEST;
 use crate::parser::{Parser, syntax};
@@ -34,7 +37,10 @@ struct ReadFun {
 }
 
 // The text without the suffix, where it ends in it.
-fn without_suffix<'t>(text: &'t [u8], suffix: &[u8]) -> Option<&'t [u8]> {
+#[tactic(auto, unfolding(crate::specs::Units::without_suffix))]
+fn without_suffix<'t>(text: &'t [u8], suffix: &[u8]) -> Option<&'t [u8]>
+    ensures { option_map (λ front. front.now) result ≡ front_of text.now suffix.now }
+{
     if text.len() < suffix.len() {
         return None;
     }
@@ -42,7 +48,9 @@ fn without_suffix<'t>(text: &'t [u8], suffix: &[u8]) -> Option<&'t [u8]> {
     if back == suffix { Some(front) } else { None }
 }
 
-fn is_among(funs: &[CFun], name: &[u8]) -> bool {
+fn is_among(funs: &[CFun], name: &[u8]) -> bool
+    ensures { result ≡ is_name_of_one funs.now name.now }
+{
     for fun in funs {
         if fun.name.as_slice() == name {
             return true;
@@ -53,7 +61,11 @@ fn is_among(funs: &[CFun], name: &[u8]) -> bool {
 
 impl<'a> Parser<'a> {
     // The name of a function, from the first word between the brackets.
-    fn name(&mut self, funs: &[CFun]) -> Result<&'a [u8], ReadFault> {
+    #[tactic(auto, unfolding(crate::specs::Units::name_at))]
+    fn name(&mut self, funs: &[CFun]) -> Result<&'a [u8], ReadFault>
+        ensures read { Gives (λ n. n.now) result (stream self.new) (name_at funs.now (stream self.old)) }
+        ensures shorter { OnOk result (left self.new < left self.old) }
+    {
         let token = self.shift()?;
         let Some(name) = without_suffix(token.text, b"_X") else {
             return Err(syntax(token.line));
@@ -68,7 +80,11 @@ impl<'a> Parser<'a> {
     }
 
     // The size behind a word between the brackets.
-    fn size(&mut self, least: u32) -> Result<u32, ReadFault> {
+    #[tactic(auto, unfolding(crate::specs::Units::size_at))]
+    fn size(&mut self, least: u32) -> Result<u32, ReadFault>
+        ensures read { Gives (λ x. x) result (stream self.new) (size_at least (stream self.old)) }
+        ensures shorter { OnOk result (left self.new < left self.old) }
+    {
         self.expect(b"=")?;
         let (size, line) = self.number()?;
         if size < least || size > LARGEST {
@@ -78,7 +94,11 @@ impl<'a> Parser<'a> {
     }
 
     // A further size, with its word.
-    fn named_size(&mut self, name: &[u8], suffix: &[u8], least: u32) -> Result<u32, ReadFault> {
+    #[tactic(auto, unfolding(crate::specs::Units::named_size_at))]
+    fn named_size(&mut self, name: &[u8], suffix: &[u8], least: u32) -> Result<u32, ReadFault>
+        ensures read { Gives (λ x. x) result (stream self.new) (named_size_at name.now suffix.now least (stream self.old)) }
+        ensures shorter { OnOk result (left self.new < left self.old) }
+    {
         self.expect(b",")?;
         let token = self.shift()?;
         match without_suffix(token.text, suffix) {
@@ -88,7 +108,11 @@ impl<'a> Parser<'a> {
     }
 
     // A size for the second or third time.
-    fn repeated(&mut self, size: u32) -> Result<(), ReadFault> {
+    #[tactic(auto, unfolding(crate::specs::Units::repeated_at))]
+    fn repeated(&mut self, size: u32) -> Result<(), ReadFault>
+        ensures read { Gives (λ x. x) result (stream self.new) (repeated_at size (stream self.old)) }
+        ensures shorter { OnOk result (left self.new < left self.old) }
+    {
         let (again, line) = self.number()?;
         if again != size {
             return Err(refused(KernelKind::Bound, line));
@@ -96,14 +120,22 @@ impl<'a> Parser<'a> {
         Ok(())
     }
 
-    fn signature(&mut self, name: &[u8]) -> Result<(), ReadFault> {
+    #[tactic(auto, unfolding(crate::specs::Units::signature_at))]
+    fn signature(&mut self, name: &[u8]) -> Result<(), ReadFault>
+        ensures read { Gives (λ x. x) result (stream self.new) (signature_at name.now (stream self.old)) }
+        ensures shorter { OnOk result (left self.new < left self.old) }
+    {
         self.expect(b"int")?;
         self.expect(name)?;
         self.expect_all(&[b"(", b"const", b"fr", b"*", b"X", b",", b"const", b"fr", b"*", b"W", b",", b"fr", b"*", b"A", b")"])
     }
 
     // The slots of T, and the two clears.
-    fn slots(&mut self, t: u32, a: u32) -> Result<(), ReadFault> {
+    #[tactic(auto, unfolding(crate::specs::Units::slots_at))]
+    fn slots(&mut self, t: u32, a: u32) -> Result<(), ReadFault>
+        ensures read { Gives (λ x. x) result (stream self.new) (slots_at t a (stream self.old)) }
+        ensures shorter { OnOk result (left self.new < left self.old) }
+    {
         self.expect_all(&[b"{", b"fr", b"T", b"["])?;
         self.repeated(t)?;
         self.expect_all(&[b"]", b";", b"fr_clear", b"(", b"T", b","])?;
@@ -114,7 +146,11 @@ impl<'a> Parser<'a> {
     }
 
     // The end of a function, which runs this many statements.
-    fn end_of_function(&mut self, count: u64) -> Result<(), ReadFault> {
+    #[tactic(auto, unfolding(crate::specs::Units::end_at))]
+    fn end_of_function(&mut self, count: u64) -> Result<(), ReadFault>
+        ensures read { Gives (λ x. x) result (stream self.new) (end_at count (stream self.old)) }
+        ensures shorter { OnOk result (left self.new < left self.old) }
+    {
         self.expect_all(&[b"return", b"0", b";"])?;
         let line = self.expect(b"}")?;
         if count > STATEMENTS {
@@ -124,7 +160,12 @@ impl<'a> Parser<'a> {
     }
 
     // The sizes of the arrays, and the name.
-    fn sizes(&mut self, funs: &[CFun]) -> Result<(&'a [u8], Scope), ReadFault> {
+    #[tactic(auto, unfolding(crate::specs::Units::sizes_at))]
+    fn sizes(&mut self, funs: &[CFun]) -> Result<(&'a [u8], Scope), ReadFault>
+        ensures read { Gives (λ x. (x.0.now, x.1)) result (stream self.new) (sizes_at funs.now (stream self.old)) }
+        ensures shorter { OnOk result (left self.new < left self.old) }
+        ensures outside { IfOk result (λ x. x.1.depth ≡ 0) }
+    {
         self.expect(b"{")?;
         let name = self.name(funs)?;
         let x = self.size(0)?;
@@ -135,7 +176,11 @@ impl<'a> Parser<'a> {
         Ok((name, Scope { x, w, t, a, turns: [1; 4], depth: 0 }))
     }
 
-    fn function(&mut self, alloc: Global, funs: &[CFun]) -> Result<ReadFun, ReadFault> {
+    #[tactic(auto, unfolding(crate::specs::Units::function_at))]
+    fn function(&mut self, alloc: Global, funs: &[CFun]) -> Result<ReadFun, ReadFault>
+        ensures read { Gives (λ x. x) result (stream self.new) (function_at funs.now (stream self.old)) }
+        ensures shorter { OnOk result (left self.new < left self.old) }
+    {
         let line = self.expect(b"enum")?;
         let (name, scope) = self.sizes(funs)?;
         self.signature(name)?;
@@ -149,12 +194,15 @@ impl<'a> Parser<'a> {
     }
 
     // All functions up to the end of the text.
-    fn functions(&mut self, alloc: Global) -> Result<ReadUnit, ReadFault> {
+    #[tactic(auto, unfolding(crate::specs::Units::functions_at))]
+    fn functions(&mut self, alloc: Global) -> Result<ReadUnit, ReadFault>
+        ensures read { Gives (λ x. x) result (stream self.new) (functions_at (stream self.old)) }
+    {
         let mut funs = Items::new(alloc);
         let mut enums = Items::new(alloc);
         let mut all_lines = Items::new(alloc);
         'all: loop {
-            if self.is_over()? {
+            if !self.is_more() {
                 return Ok(ReadUnit { unit: CUnit { funs }, enums, lines: all_lines });
             }
             let ReadFun { fun, line, lines } = self.function(alloc, funs.as_slice())?;
@@ -164,29 +212,43 @@ impl<'a> Parser<'a> {
         }
     }
 
-    // Whether the text is over; a place where no token starts is none.
-    fn is_over(&self) -> Result<bool, ReadFault> {
-        if self.ahead.is_some() {
-            return Ok(false);
-        }
+    #[tactic(auto, unfolding(crate::specs::Units::is_more, crate::specs::Stream::stream_behind))]
+    fn is_more(&self) -> bool
+        ensures { result ≡ is_more_ahead (stream self.now) }
+    {
+        self.ahead.is_some()
+    }
+
+    // Whether no token starts behind the last one.
+    fn is_lost(&self) -> bool
+        ensures lost { result ≡ is_lex self.now.end.kind }
+    {
         match self.end.kind {
-            KernelKind::Lex => Err(ReadFault::Refused(self.end)),
-            _ => Ok(true),
+            KernelKind::Lex => true,
+            _ => false,
         }
     }
 }
 
-fn read_all(alloc: Global, text: &[u8]) -> Result<ReadUnit, ReadFault> {
+fn read_all(alloc: Global, text: &[u8]) -> Result<ReadUnit, ReadFault>
+    ensures { IsRead result (reading text.now) }
+{
     if text.len() > LONGEST {
         return Err(refused(KernelKind::TooLong, 0));
     }
     let mut parser = Parser::new(text);
     parser.expect_all(&[b"#include", b"\"fr.h\""])?;
-    parser.functions(alloc)
+    let unit = parser.functions(alloc)?;
+    if parser.is_lost() {
+        return Err(ReadFault::Refused(parser.end));
+    }
+    Ok(unit)
 }
 
 /// The unit of a text, or the first place where it is refused.
-pub fn read_unit(alloc: Global, text: &[u8]) -> Result<ReadUnit, KernelRefusal> {
+pub fn read_unit(alloc: Global, text: &[u8]) -> Result<ReadUnit, KernelRefusal>
+    ensures exact { Answers result (reading text.now) }
+{
     match read_all(alloc, text) {
         Ok(unit) => Ok(unit),
         Err(ReadFault::Refused(refusal)) => Err(refusal),
