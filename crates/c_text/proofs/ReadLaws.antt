@@ -1,5 +1,6 @@
 -- Reading step by step
 use Rattle.std.proofs.Common.{◌≡◌, refl, sym, ◌∙◌, ap, ℕ, suc, ◌+◌, ◌<◌, true, false, List, [], ◌∷◌, length, drop, drop-cons, get_or, map, add-one, Result, Ok, Err, IsErr, IsErrAnd, subst}
+use Rattle.std.proofs.lemmas.Bool.{true≢false}
 use Rattle.c_text.specs.declared.refusal.KernelRefusal.{KernelRefusal}
 use Rattle.c_text.specs.declared.refusal.ReadFault.{ReadFault}
 use Rattle.c_text.specs.declared.refusal.ReadFault.TheVariants as faults
@@ -15,7 +16,7 @@ fails_as faults.Memory r q e h = tt
 fails_as (faults.Refused x) r q e h = e ∙ h
 
 pub gives_err : {X Y : Type 0} (view : X → Y) (r : Result X ReadFault) (e : ReadFault) (new : Stream) (read : Read Y) → IsErr r → IsErrAnd r (λ x. x ≡ e) → Fails e read → Gives view r new read
-gives_err view (Ok x) e new read h k f = absurd (elim h [ ])
+gives_err view (Ok x) e new read h k f = absurd (true≢false (sym h))
 gives_err view (Err x) e new read h k f = subst (λ y. Fails y read) (sym k) f
 
 pub read_ok : {A B : Type 0} (r : Result A KernelRefusal) (x : A) (f : A → Result B KernelRefusal) → r ≡ Ok x → (r >>= f) ≡ f x

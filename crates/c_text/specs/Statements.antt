@@ -198,11 +198,12 @@ no_body = record { statements = []; lines = []; count = 0 }
 abbrev pub with_line : Body → Line → Body
 with_line b l = record { statements = b.statements ++ l.statement ∷ []; lines = b.lines ++ l.lines; count = capped (b.count + l.count) }
 
-abbrev pub add_line : Bool → Bodies → Scope → List (List Ratio) → Body → Stream → Read Body
-add_line loops bodies scope tables b s = line_by loops bodies scope tables s >>= λ x. Ok (with_line b x.0, x.1)
+abbrev pub add_line : (Scope → List (List Ratio) → Stream → Read Line) → Scope → List (List Ratio) → Body → Stream → Read Body
+add_line line scope tables b s = line scope tables s >>= λ x. Ok (with_line b x.0, x.1)
 
+-- statements, where `loops` says whether there may be loops, with these bodies
 abbrev pub body_by : Bool → Bodies → Bodies
-body_by loops bodies scope tables s = repeat (is_statement loops) (add_line loops bodies scope tables) (length s.tokens) no_body s
+body_by loops bodies scope tables s = repeat (is_statement loops) (add_line (line_by loops bodies) scope tables) (length s.tokens) no_body s
 
 abbrev pub no_bodies : Bodies
 no_bodies scope tables s = Ok (no_body, s)
@@ -212,6 +213,7 @@ unfoldable pub body_at : ℕ → Bodies
 body_at zero scope tables s = body_by false no_bodies scope tables s
 body_at (suc room) scope tables s = body_by true (body_at room) scope tables s
 
+-- one of them
 unfoldable pub line_at : ℕ → Scope → List (List Ratio) → Stream → Read Line
 line_at zero scope tables s = line_by false no_bodies scope tables s
 line_at (suc room) scope tables s = line_by true (body_at room) scope tables s

@@ -1,9 +1,12 @@
 // Fractions and tables.
 
-ghost use Rattle.std.specs.Prelude.{◌≡◌, ◌<◌, ◌≤◌, OnOk};
+ghost use Rattle.std.specs.Prelude.{◌≡◌, ◌<◌, ◌≤◌, ◌^◌, ◌↔◌, pos, IsTrue, OnOk};
+ghost use Rattle.algebra.specs.Sign.{signed};
+ghost use Rattle.algebra.specs.LowestTerms.{top, bottom};
+ghost use Rattle.ratio.specs.Value.{fraction_of};
 ghost use Rattle.c_text.specs.Stream.{Gives};
 ghost use Rattle.c_text.specs.Parser.{stream, left};
-ghost use Rattle.c_text.specs.Lowest.{fraction_from};
+ghost use Rattle.c_text.specs.Lowest.{is_out, fraction_from};
 ghost use Rattle.c_text.specs.Fractions.{sign_at, half_at, part_at, fraction_at, item_at, further_item_at, further_items_at, items_at, table_name_at, table_at, tables_at};
 
 use ratio::Ratio;
@@ -20,17 +23,41 @@ const LIMIT: u128 = 0x8000_0000_0000_0000_0000_0000_0000_0000;
 /// The greatest size.
 pub const LARGEST: u32 = 0x100_0000;
 
+// Whether the parts are no fraction's in lowest terms, but for a common divisor.
+#[tactic(auto, unfolding(crate::specs::Lowest::is_out))]
+fn is_out_of_range(negative: bool, top: u128, bottom: u128) -> bool
+    ensures { result ≡ is_out negative top bottom }
+{
+    bottom == 0 || top >= LIMIT || bottom >= LIMIT || (negative && top == 0)
+}
+
+fn with_sign(negative: bool, size: u128) -> i128
+    requires { size < 2 ^ 127 }
+    ensures { result ≡ signed negative size }
+{
+    let size = size as i128;
+    if negative { -size } else { size }
+}
+
+fn has_parts(value: Ratio, num: i128, den: i128) -> bool
+    ensures { IsTrue result ↔ ((top (fraction_of value) ≡ num) × (pos (bottom (fraction_of value)) ≡ den)) }
+{
+    value.num() == num && value.den() == den
+}
+
 // The fraction of these parts, where they are below 2^127, in lowest terms and no negative zero.
 fn fraction_of_parts(negative: bool, top: u128, bottom: u128) -> Option<Ratio>
     ensures { result ≡ fraction_from negative top bottom }
 {
-    if bottom == 0 || top >= LIMIT || bottom >= LIMIT || (negative && top == 0) {
+    if is_out_of_range(negative, top, bottom) {
         return None;
     }
-    let size = top as i128;
-    let signed = if negative { -size } else { size };
-    let value = Ratio::new(signed, bottom as i128)?;
-    if value.num() == signed && value.den() == bottom as i128 { Some(value) } else { None }
+    let num = with_sign(negative, top);
+    let den = bottom as i128;
+    let Some(value) = Ratio::new(num, den) else {
+        return None;
+    };
+    if has_parts(value, num, den) { Some(value) } else { None }
 }
 
 impl<'a> Parser<'a> {
@@ -112,7 +139,7 @@ impl<'a> Parser<'a> {
 
     #[tactic(auto, unfolding(crate::specs::Fractions::further_items_at))]
     fn further_items(&mut self, first: Items<Ratio>) -> Result<Items<Ratio>, ReadFault>
-        ensures read { Gives (λ x. x) result (stream self.new) (further_items_at first.entry (stream self.old)) }
+        ensures read { Gives (λ x. x) result (stream self.new) (further_items_at first (stream self.old)) }
         ensures shorter { OnOk result (left self.new ≤ left self.old) }
     {
         let mut items = first;

@@ -152,7 +152,8 @@ impl<'a> Parser<'a> {
     {
         let (base, line) = self.number()?;
         let found = self.steps(scope.depth, line)?;
-        let slot = Slot { base, steps: found.steps };
+        let steps = found.steps;
+        let slot = Slot { base, steps };
         if scope.greatest(slot) >= size as u128 {
             return Err(refused(KernelKind::Slot, found.line));
         }

@@ -3,7 +3,7 @@
 ghost use Rattle.std.specs.Prelude.{◌≡◌, ◌<◌, ◌≤◌, ◌+◌, ℕ, ◌||◌, ◌&&◌, OnOk, IfOk, [], ◌∷◌, ◌-◌, nat_lt, codes};
 ghost use Rattle.c_text.specs.Stream.{Gives, is_ahead};
 ghost use Rattle.c_text.specs.Parser.{stream, left};
-ghost use Rattle.c_text.specs.Statements.{set_at, pair_at, copy_at, abs_at, inverse_at, triple_at, add_at, sub_at, mul_at, step_call_at, test_at, table_used_at, load_at, call_at, own_counter_at, turns_at, header_at, line_ahead as line_of_next, loop_by, line_at, body_at, call_line_at, is_call as is_call_ahead};
+ghost use Rattle.c_text.specs.Statements.{set_at, pair_at, copy_at, abs_at, inverse_at, triple_at, add_at, sub_at, mul_at, step_call_at, test_at, table_used_at, load_at, call_at, own_counter_at, turns_at, header_at, line_ahead as line_of_next, loop_by, line_at, body_at, call_line_at, is_call as is_call_ahead, is_statement as is_statement_ahead};
 
 use c_unit::{Array, CStmt, Place};
 use ratio::Ratio;
@@ -306,6 +306,13 @@ impl<'a> Parser<'a> {
             || self.next_is(b"if")
     }
 
+    // Whether a statement begins here.
+    fn is_statement(&self, depth: u32) -> bool
+        ensures { result ≡ is_statement_ahead (nat_lt depth 4) (stream self.now) }
+    {
+        self.is_call() || self.is_loop(depth)
+    }
+
     #[tactic(auto, unfolding(crate::specs::Statements::call_line_at))]
     fn call_line(&mut self, alloc: Global, scope: &Scope, tables: &[Items<Ratio>]) -> Result<Line, ReadFault>
         requires { scope.now.depth ≤ 4 }
@@ -370,7 +377,7 @@ impl<'a> Parser<'a> {
         let mut lines = Items::new(alloc);
         let mut count: u64 = 0;
         'all: loop {
-            if !self.is_call() && !self.is_loop(scope.depth) {
+            if !self.is_statement(scope.depth) {
                 return Ok(Body { statements, lines, count });
             }
             let Line { statement, lines: more, count: counted } = self.line(alloc, scope, tables)?;
