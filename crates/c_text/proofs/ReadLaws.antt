@@ -21,3 +21,7 @@ gives_err view (Err x) e new read h k f = subst (λ y. Fails y read) (sym k) f
 
 pub read_ok : {A B : Type 0} (r : Result A KernelRefusal) (x : A) (f : A → Result B KernelRefusal) → r ≡ Ok x → (r >>= f) ≡ f x
 read_ok r x f e = ap (λ q. q >>= f) e
+
+pub gives_as : {X Y : Type 0} (view : X → Y) (r : Result X ReadFault) (new : Stream) (read read' : Read Y) → read ≡ read' → Gives view r new read' → Gives view r new read
+gives_as view (Ok x) new read read' e h = e ∙ h
+gives_as view (Err x) new read read' e h = fails_as x read' read e h

@@ -4,7 +4,7 @@ use Rattle.ratio.specs.declared.reduced.Ratio.{Ratio}
 use Rattle.slices.specs.Tokens.{Token}
 use Rattle.c_unit.specs.declared.unit.Array.TheVariants.{T}
 use Rattle.c_unit.specs.declared.unit.Place.{Place}
-use Rattle.c_unit.specs.declared.unit.CStmt.{CStmt}
+use Rattle.c_unit.specs.declared.unit.CStmt.{CStmt, Set, Copy, Abs, Inv, Add, Sub, Mul, Load}
 use Rattle.c_unit.specs.declared.unit.CStmt.TheViews as View
 use Rattle.c_text.specs.declared.refusal.KernelRefusal.{KernelRefusal}
 use Rattle.c_text.specs.declared.refusal.KernelKind.TheVariants as kinds
@@ -25,7 +25,7 @@ set_at scope s = do
   c ← expect (codes ",") to.1
   v ← fraction_at c.1
   z ← expects (codes ")" ∷ codes ";" ∷ []) v.1
-  Ok (View.Set to.0 v.0, z.1)
+  Ok (Set to.0 v.0, z.1)
 
 -- this word, and the target and the argument behind it
 unfoldable pub pair_at : List ℕ → Scope → Stream → Read (Place × Place)
@@ -40,19 +40,19 @@ unfoldable pub copy_at : Scope → Stream → Read CStmt
 copy_at scope s = do
   p ← pair_at (codes "fr_copy") scope s
   z ← expects (codes ")" ∷ codes ";" ∷ []) p.1
-  Ok (View.Copy p.0.0 p.0.1, z.1)
+  Ok (Copy p.0.0 p.0.1, z.1)
 
 unfoldable pub abs_at : Scope → Stream → Read CStmt
 abs_at scope s = do
   p ← pair_at (codes "fr_abs") scope s
   z ← expects (codes ")" ∷ codes ";" ∷ []) p.1
-  Ok (View.Abs p.0.0 p.0.1, z.1)
+  Ok (Abs p.0.0 p.0.1, z.1)
 
 unfoldable pub inverse_at : Scope → Stream → Read CStmt
 inverse_at scope s = do
   p ← pair_at (codes "fr_inv") scope s
   z ← expects (codes ")" ∷ codes ")" ∷ codes "return" ∷ codes "2" ∷ codes ";" ∷ []) p.1
-  Ok (View.Inv p.0.0 p.0.1, z.1)
+  Ok (Inv p.0.0 p.0.1, z.1)
 
 -- this word, and the target and two arguments behind it
 unfoldable pub triple_at : List ℕ → Scope → Stream → Read (Place × Place × Place)
@@ -66,17 +66,17 @@ triple_at word scope s = do
 unfoldable pub add_at : Scope → Stream → Read CStmt
 add_at scope s = do
   t ← triple_at (codes "fr_add") scope s
-  Ok (View.Add t.0.0 t.0.1 t.0.2, t.1)
+  Ok (Add t.0.0 t.0.1 t.0.2, t.1)
 
 unfoldable pub sub_at : Scope → Stream → Read CStmt
 sub_at scope s = do
   t ← triple_at (codes "fr_sub") scope s
-  Ok (View.Sub t.0.0 t.0.1 t.0.2, t.1)
+  Ok (Sub t.0.0 t.0.1 t.0.2, t.1)
 
 unfoldable pub mul_at : Scope → Stream → Read CStmt
 mul_at scope s = do
   t ← triple_at (codes "fr_mul") scope s
-  Ok (View.Mul t.0.0 t.0.1 t.0.2, t.1)
+  Ok (Mul t.0.0 t.0.1 t.0.2, t.1)
 
 -- a call that may end the run, behind `if (`
 unfoldable pub step_call_at : Scope → Stream → Read CStmt
@@ -116,7 +116,7 @@ load_at scope tables s = do
   b ← expect (codes "[") k.1
   at ← slot_at scope k.0.1 b.1
   z ← expects (codes "]" ∷ codes ")" ∷ codes ";" ∷ []) at.1
-  Ok (View.Load (record { array = T; slot = to.0 }) k.0.0 at.0, z.1)
+  Ok (Load (record { array = T; slot = to.0 }) k.0.0 at.0, z.1)
 
 unfoldable pub call_at : Scope → List (List Ratio) → Stream → Read CStmt
 call_at scope tables s =

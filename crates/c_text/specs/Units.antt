@@ -68,15 +68,20 @@ signature_at name s = do
   n ← expect name i.1
   expects parameters n.1
 
+-- "fr_clear" "(" array "," N ")" ";"
+unfoldable pub clear_at : List ℕ → ℕ → Stream → Read (Unit {0})
+clear_at array size s = do
+  o ← expects (codes "fr_clear" ∷ codes "(" ∷ array ∷ codes "," ∷ []) s
+  n ← repeated_at size o.1
+  expects (codes ")" ∷ codes ";" ∷ []) n.1
+
 unfoldable pub slots_at : ℕ → ℕ → Stream → Read (Unit {0})
 slots_at t a s = do
   o ← expects (codes "{" ∷ codes "fr" ∷ codes "T" ∷ codes "[" ∷ []) s
   n ← repeated_at t o.1
-  c ← expects (codes "]" ∷ codes ";" ∷ codes "fr_clear" ∷ codes "(" ∷ codes "T" ∷ codes "," ∷ []) n.1
-  m ← repeated_at t c.1
-  d ← expects (codes ")" ∷ codes ";" ∷ codes "fr_clear" ∷ codes "(" ∷ codes "A" ∷ codes "," ∷ []) m.1
-  k ← repeated_at a d.1
-  expects (codes ")" ∷ codes ";" ∷ []) k.1
+  c ← expects (codes "]" ∷ codes ";" ∷ []) n.1
+  m ← clear_at (codes "T") t c.1
+  clear_at (codes "A") a m.1
 
 -- the end of a function that runs so many statements
 unfoldable pub end_at : ℕ → Stream → Read (Unit {0})

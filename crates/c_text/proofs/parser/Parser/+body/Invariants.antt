@@ -1,16 +1,9 @@
-use Rattle.std.proofs.Common.{◌≡◌, ◌≤◌, ◌-◌, ◌*◌, ◌+◌, ℕ, nat_lt}
-use Rattle.c_text.specs.Stream.{repeat}
-use Rattle.c_text.specs.Statements.{is_statement, add_line, line_at, body_at}
-use Rattle.c_text.specs.Parser.{stream, left}
+use Rattle.std.proofs.Common.{◌≤◌, ◌-◌, ◌*◌, ◌+◌}
+use Rattle.c_text.specs.Parser.{left}
 use Rattle.c_text.proofs.parser.Parser.+body.Given as goal
 
 abbrev pub invariant-body-all : goal.invariant-body-all
-invariant-body-all l = record {
-  shorter : left l.self ≤ left l.fn.self;
-  read : (m : ℕ) × (left l.self ≤ m)
-      × (body_at (4 - l.scope.depth) l.scope l.tables (stream l.fn.self)
-      ≡ repeat (is_statement (nat_lt l.scope.depth 4)) (add_line (line_at (4 - l.scope.depth)) l.scope l.tables) m (record { statements = l.statements; lines = l.lines; count = l.count }) (stream l.self));
-}
+invariant-body-all l = left l.self ≤ left l.fn.self
 
 abbrev pub decreases-body-all : goal.decreases-body-all
 decreases-body-all l = left l.self
