@@ -6,3 +6,4 @@ pub mod AbsoluteLaws
 pub mod InverseLaws
 pub mod LowestLaws
 pub mod SumLaws
+pub mod StepLaws

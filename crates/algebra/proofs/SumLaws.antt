@@ -1,5 +1,10 @@
 -- Sums of lists in a commutative group, and in a ring
-use Rattle.std.proofs.Common.{◌≡◌, List, [], ◌∷◌, ◌++◌, map, refl, sym, ◌∙◌, ap, ap₂}
+use Rattle.std.proofs.Common.{◌≡◌, ℕ, zero, suc, ◌<◌, List, [], ◌∷◌, ◌++◌, length, get_or, map, refl, sym, ◌∙◌, ap, ap₂, subst, arith}
+use Rattle.std.proofs.Math.ListN.{set, length-set}
+use Rattle.std.specs.List.{swap}
+use Rattle.std.specs.List.Sorted.{IsPermutation}
+use Rattle.std.proofs.lemmas.List.Sorted.{IsPermutation-keeps}
+use native.Mathlib.Nat as N
 use Rattle.algebra.specs.Group.{Group}
 use Rattle.algebra.specs.GroupLaws as L
 use Rattle.algebra.specs.Ring.{Ring, additive}
@@ -58,3 +63,39 @@ module _ {K : Type 0} (A : Ring K) where
   pub total_in-map_mul : (c : K) (xs : List K) → total_in (additive A) (map (mul c) xs) ≡ mul c (total_in (additive A) xs)
   total_in-map_mul c [] = sym (R.mul-zero A c)
   total_in-map_mul c (x ∷ xs) = ap (A.add (mul c x)) (total_in-map_mul c xs) ∙ sym (A.mul_add c x (total_in (additive A) xs))
+
+-- ---- the order of the elements does not matter
+module _ {A : Type 0} (G : Group A) where
+  open G use {add}
+
+  last_first : (x t v : A) → add (add v t) x ≡ add (add x t) v
+  last_first x t v = G.add_comm (add v t) x ∙ ap (add x) (G.add_comm v t) ∙ sym (G.add_assoc x t v)
+
+  -- a write exchanges one element of the sum
+  total_in-set : (xs : List A) (i : ℕ) (v d : A) → i < length xs → add (total_in G (set xs i v)) (get_or xs i d) ≡ add (total_in G xs) v
+  total_in-set [] i v d h = absurd (omega arith)
+  total_in-set (x ∷ xs) zero v d h = last_first x (total_in G xs) v
+  total_in-set (x ∷ xs) (suc i) v d h =
+      G.add_assoc x (total_in G (set xs i v)) (get_or xs i d) ∙ ap (add x) (total_in-set xs i v d (N.le_of_suc-le-suc h)) ∙ sym (G.add_assoc x (total_in G xs) v)
+
+  read_back : (xs : List A) (i j : ℕ) (d : A) → get_or (set xs i (get_or xs j d)) j d ≡ get_or xs j d
+  read_back [] i j d = refl
+  read_back (x ∷ xs) zero zero d = refl
+  read_back (x ∷ xs) zero (suc j) d = refl
+  read_back (x ∷ xs) (suc i) zero d = refl
+  read_back (x ∷ xs) (suc i) (suc j) d = read_back xs i j d
+
+  exchanged : (xs : List A) (i j : ℕ) (d : A) → i < length xs → j < length xs → total_in G (set (set xs i (get_or xs j d)) j (get_or xs i d)) ≡ total_in G xs
+  exchanged xs i j d h g =
+      L.add_right_cancel G _ (total_in G xs) (get_or xs j d)
+      (ap (add (total_in G (set (set xs i (get_or xs j d)) j (get_or xs i d)))) (sym (read_back xs i j d))
+      ∙ total_in-set (set xs i (get_or xs j d)) j (get_or xs i d) d (subst (λ n. j < n) (sym (length-set xs i (get_or xs j d))) g)
+      ∙ total_in-set xs i (get_or xs j d) d h)
+
+  pub total_in-swap : (xs : List A) (i j : ℕ) → i < length xs → j < length xs → total_in G (swap xs i j) ≡ total_in G xs
+  total_in-swap [] i j h g = refl
+  total_in-swap (x ∷ xs) i j h g = exchanged (x ∷ xs) i j x h g
+
+  pub total_in-permutation : (xs ys : List A) → IsPermutation xs ys → total_in G ys ≡ total_in G xs
+  total_in-permutation xs ys p =
+      IsPermutation-keeps xs (λ l. total_in G l ≡ total_in G xs) refl (λ l i j h g e. total_in-swap l i j h g ∙ e) ys p

@@ -1,6 +1,6 @@
 // Slots, read and written.
 
-ghost use Rattle.std.specs.Prelude.{◌≡◌, ℕ, List, [], slice_index_or, slice_set};
+ghost use Rattle.std.specs.Prelude.{◌≡◌, ℕ, List, [], true, slice_index_or, slice_set};
 ghost use Rattle.algebra.specs.Fraction.{zero_fraction};
 ghost use Rattle.ratio.specs.declared.reduced.Ratio.{Ratio as TheRatio};
 ghost use Rattle.ratio.specs.Value.{fraction_of};
@@ -48,9 +48,22 @@ impl Turns {
     }
 }
 
+// Whether the slot is the same in all turns.
+#[inline(always)]
+fn is_fixed(s: Slot) -> bool
+    ensures { result ≡ true → (is : List ℕ) → address s is ≡ s.base }
+{
+    s.steps[0] == 0 && s.steps[1] == 0 && s.steps[2] == 0 && s.steps[3] == 0
+}
+
+// The slot's number, which may be past the end of any array.
+#[inline(always)]
 pub fn address(s: Slot, is: Turns) -> u128
     ensures { result ≡ address s is.of }
 {
+    if is_fixed(s) {
+        return s.base as u128;
+    }
     s.base as u128
         + s.steps[0] as u128 * is.of[0] as u128
         + s.steps[1] as u128 * is.of[1] as u128
@@ -59,6 +72,7 @@ pub fn address(s: Slot, is: Turns) -> u128
 }
 
 // The item, and 0 past the end.
+#[inline(always)]
 fn element(xs: &[Ratio], k: u128) -> Ratio
     ensures { fraction_of result ≡ slice_index_or (fractions_of xs.now) k zero_fraction }
 {
@@ -69,6 +83,7 @@ fn element(xs: &[Ratio], k: u128) -> Ratio
     }
 }
 
+#[inline(always)]
 fn store(xs: &mut [Ratio], k: u128, v: Ratio)
     ensures { fractions_of xs.new ≡ slice_set (fractions_of xs.old) k (fraction_of v) }
 {
@@ -89,6 +104,7 @@ pub fn item(tables: &[Items<Ratio>], table: u32, k: u128) -> Ratio
     }
 }
 
+#[inline(always)]
 pub fn read(p: Place, is: Turns, from: &Inputs, t: &[Ratio], a: &[Ratio]) -> Ratio
     ensures { fraction_of result ≡ value_at p is.of (slots_of from.now.x.now from.now.w.now t.now a.now) }
 {
@@ -101,6 +117,7 @@ pub fn read(p: Place, is: Turns, from: &Inputs, t: &[Ratio], a: &[Ratio]) -> Rat
     }
 }
 
+#[inline(always)]
 pub fn write(to: Place, is: Turns, v: Ratio, t: &mut [Ratio], a: &mut [Ratio])
     ensures { (x w : List TheRatio) → slots_of x w t.new a.new ≡ put to is.of (fraction_of v) (slots_of x w t.old a.old) }
 {

@@ -12,6 +12,7 @@ use c_unit::{CStmt, Op, Place};
 use ratio::Ratio;
 
 // Writes what a step gave, or ends the run.
+#[inline(always)]
 fn settle(
     given: Option<Ratio>,
     op: Op,
@@ -39,6 +40,7 @@ fn settle(
 }
 
 // Writes a reciprocal, or ends the run.
+#[inline(always)]
 fn settle_inverse(
     given: Option<Ratio>,
     to: Place,
@@ -57,6 +59,7 @@ fn settle_inverse(
     }
 }
 
+#[inline(always)]
 pub fn run_statement(s: &CStmt, is: Turns, from: &Inputs, t: &mut [Ratio], a: &mut [Ratio]) -> Ret
     requires { is_loop s.now ≡ false }
     ensures { (depth : ℕ) → end_of result (slots_of from.now.x.now from.now.w.now t.new a.new) ≡ run_one s.now (tables_of from.now.tables.now) depth is.of (slots_of from.now.x.now from.now.w.now t.old a.old) }

@@ -27,7 +27,7 @@ pub struct Place {
 }
 
 /// The steps that may pass: their exact result may need more than 127 bits.
-#[derive(Clone, Copy)]
+#[derive(Clone, Copy, Debug, PartialEq, Eq)]
 pub enum Op {
     Add,
     Sub,

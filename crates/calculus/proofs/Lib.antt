@@ -18,3 +18,4 @@ pub mod Linear
 pub mod MassShare
 pub mod Nodes
 pub mod PulledBackDerivative
+pub mod Monomials

@@ -22,7 +22,7 @@ antiderivative-scaled i c p = J.anti-scaled fractions rationals.division i c p
 pub composed-scaled : (s : ℕ → Polynomial) (c : Fraction) (p : Polynomial) → composed s (times (constant c) p) ≡ times (constant c) (composed s p)
 composed-scaled s c p = composed-times s (constant c) p ∙ ap (λ x. times x (composed s p)) (composed-constant s c)
 
-negative-plus : (p q : Polynomial) → negative (plus p q) ≡ plus (negative p) (negative q)
+pub negative-plus : (p q : Polynomial) → negative (plus p q) ≡ plus (negative p) (negative q)
 negative-plus p q = Solve.ring polynomials (p ∷ q ∷ []) (opposite (at 0 ⊕ at 1)) (opposite (at 0) ⊕ opposite (at 1)) refl
 
 signed-plus : (n : ℕ) (p q : Polynomial) → signed n (plus p q) ≡ plus (signed n p) (signed n q)

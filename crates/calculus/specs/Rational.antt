@@ -17,7 +17,7 @@ zero_where =
     ind {r = Same} {β = λ a. is_zero_fraction a ≡ true → a ≡ zero_fraction} (λ a. Π_prop (λ _. Quot-set a zero_fraction))
     (λ p e. same p (whole (pos 0)) (mul_one p.num ∙ nought p.num e ∙ sym (zero-*ℤ (pos p.den))))
 
-natural_whole : (n : ℕ) → natural fractions n ≡ mk (whole (pos n))
+pub natural_whole : (n : ℕ) → natural fractions n ≡ mk (whole (pos n))
 unfolding zero_fraction one_fraction add
 natural_whole zero = refl
 natural_whole (suc n) =

@@ -8,3 +8,9 @@ pub mod Equality
 pub mod Tens
 pub mod TextLaws
 pub mod DigitLaws
+pub mod FitLaws
+pub mod DecimalLaws
+pub mod SignedSizes
+pub mod GrammarLaws
+pub mod MagnitudeLaws
+pub mod WrittenLaws

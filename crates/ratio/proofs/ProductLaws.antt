@@ -9,7 +9,7 @@ use Rattle.ratio.specs.Parts.{Fits}
 use Rattle.algebra.specs.Sign.{signed, signs_differ}
 use Rattle.algebra.proofs.Signs.{signed-mul}
 use Rattle.ratio.specs.declared.reduced.Ratio.{Ratio}
-use Rattle.algebra.specs.Integers.{neg-mul, integers}
+use Rattle.algebra.specs.Integers.{integers}
 use Rattle.algebra.specs.Solver.{at, ◌⊗◌, minus}
 use Rattle.algebra.specs.Sound.{ring}
 use Rattle.algebra.specs.Fraction.{same, pair_product, mul as times}

@@ -1,5 +1,5 @@
 -- What the parts of a fraction are at a reduced pair, and when a step passes
-use Rattle.std.proofs.Common.{◌≡◌, ℕ, zero, suc, ℤ, pos, negsuc, ◌*ℤ◌, ◌*◌, ◌/◌, ◌<◌, ◌^◌, refl, sym, ◌∙◌, ap, ap₂, arith, unsigned_abs, Bool, true, false, Option, None, Some, IsSome, IfSome, ◌↔◌, ltb-true, ◌&&◌, if◌then◌else◌}
+use Rattle.std.proofs.Common.{◌≡◌, ℕ, ◌*ℤ◌, ◌*◌, ◌/◌, ◌<◌, ◌^◌, refl, sym, ◌∙◌, ap, ap₂, arith, unsigned_abs, Bool, true, false, Option, None, Some, IsSome, IfSome, ◌↔◌, ltb-true, ◌&&◌, if◌then◌else◌}
 use native.Mathlib.Nat as N
 use mathlib.Core.Quot.{mk}
 use Rattle.algebra.specs.Fraction.{Pair, Fraction, add, mul, below_nought, pair_product, pair_sum}
@@ -26,14 +26,14 @@ bottom_reads r = by_one r.d _ r.lowest
 pub below : (n : ℕ) → n < 2 ^ 127 → below_limit n ≡ true
 below n h = grind arith
 
-below_is : (n : ℕ) → below_limit n ≡ true → n < 2 ^ 127
+pub below_is : (n : ℕ) → below_limit n ≡ true → n < 2 ^ 127
 below_is n h = ltb-true n (2 ^ 127) h
 
 pub and_true : (a b : Bool) → a ≡ true → b ≡ true → (a && b) ≡ true
 and_true true b h g = g
 and_true false b h g = cc
 
-and_is : (a b : Bool) → (a && b) ≡ true → (a ≡ true) × (b ≡ true)
+pub and_is : (a b : Bool) → (a && b) ≡ true → (a ≡ true) × (b ≡ true)
 and_is true b h = (refl, h)
 and_is false b h = cc
 

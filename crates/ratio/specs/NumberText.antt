@@ -37,17 +37,23 @@ abbrev pub IsSign : List ℕ → Bool → Type 0
 IsSign text true = text ≡ 45 ∷ []
 IsSign text false = (text ≡ []) ⊎ (text ≡ 43 ∷ [])
 
--- `e` or `E`, a sign or none, and one to three digits
-pub record IsWrittenExponent (text : List ℕ) (lowered : Bool) (size : ℕ) : Type 0 where
-  pub mark : ℕ
+-- a sign or none, and one to three digits
+pub record IsSignedSize (text : List ℕ) (lowered : Bool) (size : ℕ) : Type 0 where
   pub sign : List ℕ
   pub digits : List ℕ
-  pub is_mark : (mark ≡ 101) ⊎ (mark ≡ 69)
   pub is_sign : IsSign sign lowered
   pub is_numeral : IsNumeral 10 digits
   pub at_most_three : length digits ≤ 3
   pub size_is : size ≡ digits_value 10 digits
-  pub text_is : text ≡ mark ∷ (sign ++ digits)
+  pub text_is : text ≡ sign ++ digits
+
+-- `e` or `E`, and a signed size
+pub record IsWrittenExponent (text : List ℕ) (lowered : Bool) (size : ℕ) : Type 0 where
+  pub mark : ℕ
+  pub rest : List ℕ
+  pub is_mark : (mark ≡ 101) ⊎ (mark ≡ 69)
+  pub is_signed : IsSignedSize rest lowered size
+  pub text_is : text ≡ mark ∷ rest
 
 -- an exponent, or nothing
 abbrev pub IsExponent : List ℕ → Bool → ℕ → Type 0
@@ -118,3 +124,7 @@ magnitude_value (Point d) = decimal_value d
 -- the value of a number that fits
 abbrev pub number_value : Bool → Magnitude → Option Fraction
 number_value below_zero m = if below_zero then option_map negative (magnitude_value m) else magnitude_value m
+
+-- the text is a number with this value, which fits
+abbrev pub IsReadAs : List ℕ → Fraction → Type 0
+IsReadAs text x = (below_zero : Bool) × ((m : Magnitude) × (IsNumber text below_zero m × (number_value below_zero m ≡ Some x)))

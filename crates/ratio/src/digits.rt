@@ -1,6 +1,6 @@
 // Strings of decimal digits and what they stand for.
 
-ghost use Rattle.std.specs.Prelude.{◌≡◌, ℕ, ◌+◌, ◌*◌, ◌++◌, ◌<◌, ◌≤◌, ◌^◌, length, replicate};
+ghost use Rattle.std.specs.Prelude.{◌≡◌, ℕ, ◌+◌, ◌*◌, List, ◌∷◌, ◌++◌, MatchOption, ◌<◌, ◌≤◌, ◌^◌, length, replicate};
 ghost use Rattle.std.specs.Char.{digit_value};
 ghost use Rattle.std.specs.Option.{SomeIff};
 ghost use Rattle.std.specs.Str.Parse.{AllDigits, digits_value_after};
@@ -15,6 +15,16 @@ pub fn digit(byte: u8) -> Option<u16>
 {
     match byte {
         b'0'..=b'9' => Some((byte - b'0') as u16),
+        _ => None,
+    }
+}
+
+/// The text behind its first byte, where that is the one given.
+pub fn strip_byte(text: &[u8], byte: u8) -> Option<&[u8]>
+    ensures { MatchOption result (¬ ((rest : List ℕ) × (text.now ≡ byte ∷ rest))) (λ rest. text.now ≡ byte ∷ rest.now) }
+{
+    match text {
+        [first, rest @ ..] if *first == byte => Some(rest),
         _ => None,
     }
 }

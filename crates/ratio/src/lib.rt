@@ -13,3 +13,4 @@ mod reduced;
 mod text;
 
 pub use reduced::Ratio;
+pub use text::written_is_read;

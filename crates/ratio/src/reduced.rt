@@ -11,7 +11,7 @@ use std::cmp::Ordering;
 /// A fraction n/d in lowest terms with d above 0, both at most 2^127 - 1 in size; zero is 0/1.
 ///
 /// Contracts see its value, `fraction_of`: two are equal exactly where their values are.
-#[derive(Clone, Copy, PartialEq, Eq)]
+#[derive(Clone, Copy, Debug, PartialEq, Eq)]
 pub struct Ratio {
     n: i128,
     d: u128,
@@ -39,7 +39,7 @@ fn build(negative: bool, top: u128, bottom: u128) -> Option<Ratio>
 impl Ratio {
     ghost use Rattle.ratio.specs.Value.{fraction_of, valued};
     ghost use Rattle.ratio.specs.Parts.{Fits, SumFits};
-    ghost use Rattle.algebra.specs.Fraction.{mul as times, add as plus, zero_fraction, one_fraction, negative as minus, absolute, is_zero_fraction};
+    ghost use Rattle.algebra.specs.Fraction.{mul as times, add as plus, zero_fraction, one_fraction, negative as minus, absolute, inverse, of_integer, is_zero_fraction};
     ghost use Rattle.algebra.specs.LowestTerms.{top, bottom};
     ghost use Rattle.algebra.specs.Order.{compare_to_zero};
     ghost use Rattle.algebra.specs.Steps.{product, sum, difference, reciprocal, quotient};
@@ -142,6 +142,23 @@ impl Ratio {
         self.n.cmp(&0)
     }
 
+    // A whole number.
+    pub(crate) fn whole(n: u128) -> Ratio
+        requires { n < 2 ^ 127 }
+        ensures { fraction_of result ≡ of_integer (pos n) }
+    {
+        Ratio { n: n as i128, d: 1 }
+    }
+
+    // The reciprocal of a whole number.
+    pub(crate) fn one_over(d: u128) -> Ratio
+        requires positive { 0 < d }
+        requires fits { d < 2 ^ 127 }
+        ensures { fraction_of result ≡ inverse (of_integer (pos d)) }
+    {
+        Ratio { n: 1, d }
+    }
+
     // The quotient of two whole numbers, reduced.
     fn reduced_quotient(n: i128, d: i128) -> Option<Ratio>
         ensures passes { IsSome result ↔ ((d ≢ pos 0) × Fits (unsigned_abs n) (unsigned_abs d)) }
@@ -183,5 +200,25 @@ impl Ratio {
         let h = greatest_common_divisor(size, g);
         let bottom = quotient_product(self.d, g, o.d, h)?;
         build(negative(t), size / h, bottom)
+    }
+}
+
+#[cfg(test)]
+mod tests {
+    use super::*;
+
+    // 1/2^100 + 1/2^100 is 1/2^99, though 2^200 is too wide; and a product is reduced before anything is multiplied.
+    #[test]
+    fn steps_are_reduced_first(rt: HostRuntime) {
+        let small = Ratio::new(1, 1 << 100).expect(&rt, "a fraction");
+        assert!(rt; small.add(small) == Ratio::new(1, 1 << 99));
+        assert!(rt; small.sub(small) == Some(Ratio::zero()));
+        assert!(rt; small.mul(small).is_none());
+        let large = small.inv().expect(&rt, "a reciprocal").neg();
+        assert!(rt; small.mul(large) == Ratio::new(-1, 1));
+        assert!(rt; large.abs() == Ratio::new(1 << 100, 1).expect(&rt, "a number"));
+        assert!(rt; large.cmp_zero() == std::cmp::Ordering::Less);
+        assert!(rt; !large.is_zero() && large.num() == -(1 << 100) && large.den() == 1);
+        assert!(rt; Ratio::new(1, 0).is_none() && Ratio::new(i128::MIN, 1).is_none());
     }
 }

@@ -1,11 +1,15 @@
 // The text of a number.
 
-ghost use Rattle.std.specs.Prelude.{◌≡◌, ◌+◌, ◌≤◌, ◌++◌, ◌∷◌, length, is_ok, if◌then◌else◌};
-ghost use Rattle.ratio.specs.Value.{fraction_of};
+ghost use Rattle.std.specs.Prelude.{◌≡◌, ◌+◌, ◌≤◌, ◌++◌, ◌∷◌, length, Bool, true, OnSome, is_ok, if◌then◌else◌};
+ghost use Rattle.std.specs.Str.Parse.{IsNumeral};
+ghost use Rattle.algebra.specs.Fraction.{Fraction};
+ghost use Rattle.algebra.specs.Steps.{fits};
+ghost use Rattle.ratio.specs.NumberText.{IsReadAs, Decimal, IsDecimal, IsMagnitude, IsNumber, Magnitude, decimal_value, magnitude_value, number_value, quotient_value};
+ghost use Rattle.ratio.specs.Value.{fraction_of, valued};
 ghost use Rattle.ratio.specs.WrittenText.{text_of};
 
 use crate::decimal;
-use crate::digits::{appended, split_digits};
+use crate::digits::{appended, split_digits, strip_byte};
 use crate::reduced::Ratio;
 use itoa::Buffer;
 use std::alloc::AllocError;
@@ -24,18 +28,27 @@ fn append_quotient(out: &mut Vec<u8>, top: &[u8], bottom: &[u8]) -> Result<(), A
 }
 
 // Digits, a slash and digits: both at most 2^127 - 1, the second above 0.
-fn read_quotient(above: &[u8], below: &[u8]) -> Option<Ratio> {
+fn read_quotient(above: &[u8], below: &[u8]) -> Option<Ratio>
+    ensures value { IsNumeral 10 above.now → IsNumeral 10 below.now → valued result ≡ quotient_value above.now below.now }
+    ensures lawful { OnSome result (IsNumeral 10 above.now × IsNumeral 10 below.now) }
+{
     if above.is_empty() || below.is_empty() {
         return None;
     }
-    Ratio::new(appended(0, above)? as i128, appended(0, below)? as i128)
+    let top = appended(0, above)?;
+    let bottom = appended(0, below)?;
+    Ratio::new(top as i128, bottom as i128)
 }
 
-fn read_unsigned(text: &[u8]) -> Option<Ratio> {
+// A number without its sign.
+fn read_magnitude(text: &[u8]) -> Option<Ratio>
+    ensures value { (m : Magnitude) → IsMagnitude text.now m → valued result ≡ magnitude_value m }
+    ensures lawful { OnSome result ((m : Magnitude) × IsMagnitude text.now m) }
+{
     let (above, rest) = split_digits(text);
-    match rest {
-        [b'/', below @ ..] => read_quotient(above, below),
-        _ => decimal::read_decimal(text),
+    match strip_byte(rest, b'/') {
+        Some(below) => read_quotient(above, below),
+        None => decimal::read_decimal(text),
     }
 }
 
@@ -62,10 +75,13 @@ impl Ratio {
     /// The number that the whole text is, or `None` exactly where it is no number or does not fit.
     ///
     /// A number is `-` or nothing, then either digits, `/` and digits, or a decimal as `read_decimal` takes it.
-    pub fn read(text: &[u8]) -> Option<Ratio> {
-        match text {
-            [b'-', size @ ..] => Some(read_unsigned(size)?.neg()),
-            _ => read_unsigned(text),
+    pub fn read(text: &[u8]) -> Option<Ratio>
+        ensures value { (below_zero : Bool) (m : Magnitude) → IsNumber text.now below_zero m → valued result ≡ number_value below_zero m }
+        ensures lawful { OnSome result ((below_zero : Bool) × ((m : Magnitude) × IsNumber text.now below_zero m)) }
+    {
+        match strip_byte(text, b'-') {
+            Some(size) => Some(read_magnitude(size)?.neg()),
+            None => read_magnitude(text),
         }
     }
 
@@ -73,10 +89,18 @@ impl Ratio {
     ///
     /// A decimal is digits, or digits with one point before, between or behind them, then perhaps `e` or `E`, a sign or none, and one to
     /// three digits. It has no sign and no slash.
-    pub fn read_decimal(text: &[u8]) -> Option<Ratio> {
+    pub fn read_decimal(text: &[u8]) -> Option<Ratio>
+        ensures value { (d : Decimal) → IsDecimal text.now d → valued result ≡ decimal_value d }
+        ensures lawful { OnSome result ((d : Decimal) × IsDecimal text.now d) }
+    {
         decimal::read_decimal(text)
     }
 }
+
+/// The law between `write` and `read`: what `write` appends for a value is a number that stands for it, so `read` gives that value.
+pub fn written_is_read()
+    ensures { (x : Fraction) → fits x ≡ true → IsReadAs (text_of x) x }
+{}
 
 #[cfg(test)]
 mod tests {
@@ -142,6 +166,23 @@ mod tests {
         for text in unlawful {
             assert!(rt; Ratio::read(text).is_none());
         }
+    }
+
+    // Zeros without limit: 1 with 600 zeros behind it and e-600, and 600 zeros behind the point.
+    #[test]
+    fn reads_zeros_without_limit(rt: HostRuntime) {
+        let zeros = [b'0'; 600];
+        let mut text = Vec::new(rt.alloc());
+        text.extend_from_slice(b"1").expect(&rt, "room");
+        text.extend_from_slice(&zeros).expect(&rt, "room");
+        assert!(rt; Ratio::read(&text).is_none());
+        text.extend_from_slice(b"e-600").expect(&rt, "room");
+        assert!(rt; Ratio::read(&text) == Some(Ratio::one()));
+        text.clear();
+        text.extend_from_slice(b"-0.").expect(&rt, "room");
+        text.extend_from_slice(&zeros).expect(&rt, "room");
+        text.extend_from_slice(b"3E+601").expect(&rt, "room");
+        assert!(rt; Ratio::read(&text) == Ratio::new(-3, 1));
     }
 
     #[test]

@@ -109,9 +109,9 @@ pub target_skip : (q : Part) (j : Class) → more_names j ≡ false → comma_on
 target_skip q k.Comma h = cc
 target_skip q _ h = refl
 
-pub names_skip : (n : ℕ) (j : Class) → more_names j ≡ false → names_on n j ≡ skips
-names_skip n (k.Name b) h = cc
-names_skip n _ h = refl
+pub names_skip : (j : Class) → more_names j ≡ false → names_on j ≡ skips
+names_skip (k.Name b) h = cc
+names_skip _ h = refl
 
 pub statements_skip : (n : ℕ) (j : Class) → begins_statement j ≡ false → part_on (statements n) j ≡ skips
 statements_skip n (k.Name b) h = cc
@@ -564,21 +564,21 @@ mutual
       run_takes (an_atom (suc m)) stack t us (a_later m ∷ token k.CloseList ∷ []) (ap (atom_on (suc m)) h)
       ∙ c_later a (ap more i) (token k.CloseList ∷ stack) ∙ takes_token k.CloseList stack c rest i refl
 
-pub c_later_names : {ts : List Lexeme} {names : List Tok} {rest : List Lexeme} → LaterNames ts names rest → Ends more_names rest → (n : ℕ) (stack : List Part) → run (later_names n ∷ stack) ts ≡ run stack rest
-c_later_names {rest = rest} no_name end n stack = passes (later_names n) more_names (names_skip n) refl rest end stack
-c_later_names {rest = rest} (last_name {t = t} h) end n stack =
-    run_takes (later_names n) stack t rest (after_target n ∷ []) (ap (names_on n) h) ∙ passes (after_target n) more_names (target_skip (later_names n)) refl rest end stack
-c_later_names (further_name {t = t} {comma = comma} {mid = mid} h i l) end n stack =
-    run_takes (later_names n) stack t (comma ∷ mid) (after_target n ∷ []) (ap (names_on n) h)
-    ∙ run_takes (after_target n) stack comma mid (later_names n ∷ []) (ap (comma_on (later_names n)) i) ∙ c_later_names l end n stack
+pub c_later_names : {ts : List Lexeme} {names : List Tok} {rest : List Lexeme} → LaterNames ts names rest → Ends more_names rest → (stack : List Part) → run (later_names ∷ stack) ts ≡ run stack rest
+c_later_names {rest = rest} no_name end stack = passes later_names more_names names_skip refl rest end stack
+c_later_names {rest = rest} (last_name {t = t} h) end stack =
+    run_takes later_names stack t rest (after_target ∷ []) (ap names_on h) ∙ passes after_target more_names (target_skip later_names) refl rest end stack
+c_later_names (further_name {t = t} {comma = comma} {mid = mid} h i l) end stack =
+    run_takes later_names stack t (comma ∷ mid) (after_target ∷ []) (ap names_on h)
+    ∙ run_takes after_target stack comma mid (later_names ∷ []) (ap (comma_on later_names) i) ∙ c_later_names l end stack
 
 pub c_names : {ts : List Lexeme} {names : List Tok} {unpack : Bool} {rest : List Lexeme} → Names ts names unpack rest → Ends more_names rest → (n : ℕ) (stack : List Part)
-    → run (a_word n ∷ after_target n ∷ stack) ts ≡ run stack rest
+    → run (a_word n ∷ after_target ∷ stack) ts ≡ run stack rest
 c_names {rest = rest} (one_name {t = t} h) end n stack =
-    run_takes (a_word n) (after_target n ∷ stack) t rest [] (ap (word_on n) h) ∙ passes (after_target n) more_names (target_skip (later_names n)) refl rest end stack
+    run_takes (a_word n) (after_target ∷ stack) t rest [] (ap (word_on n) h) ∙ passes after_target more_names (target_skip later_names) refl rest end stack
 c_names (several_names {t = t} {comma = comma} {mid = mid} h i l) end n stack =
-    run_takes (a_word n) (after_target n ∷ stack) t (comma ∷ mid) [] (ap (word_on n) h)
-    ∙ run_takes (after_target n) stack comma mid (later_names n ∷ []) (ap (comma_on (later_names n)) i) ∙ c_later_names l end n stack
+    run_takes (a_word n) (after_target ∷ stack) t (comma ∷ mid) [] (ap (word_on n) h)
+    ∙ run_takes after_target stack comma mid (later_names ∷ []) (ap (comma_on later_names) i) ∙ c_later_names l end stack
 
 -- targets and the `=` after them
 pub c_targets : {ts : List Lexeme} {names : List Tok} {unpack : Bool} {eq : Lexeme} {us : List Lexeme} → Targets ts names unpack (eq ∷ us) → eq.class ≡ k.Assign → (n : ℕ) (stack : List Part)
@@ -588,11 +588,11 @@ c_targets {eq = eq} {us = us} (bare_targets (one_name {t = t} h)) e n stack =
     ∙ run_takes (after_first n) stack eq us (a_value n ∷ token k.End ∷ []) (ap (first_on n) e)
 c_targets {eq = eq} {us = us} (bare_targets (several_names {t = t} {comma = comma} {mid = mid} h i l)) e n stack =
     run_takes (a_statement n) stack t (comma ∷ mid) (after_first n ∷ []) (ap (statement_on n) h)
-    ∙ run_takes (after_first n) stack comma mid (later_names n ∷ token k.Assign ∷ a_value n ∷ token k.End ∷ []) (ap (first_on n) i)
-    ∙ c_later_names l (ap more_names e) n (token k.Assign ∷ a_value n ∷ token k.End ∷ stack)
+    ∙ run_takes (after_first n) stack comma mid (later_names ∷ token k.Assign ∷ a_value n ∷ token k.End ∷ []) (ap (first_on n) i)
+    ∙ c_later_names l (ap more_names e) (token k.Assign ∷ a_value n ∷ token k.End ∷ stack)
     ∙ takes_token k.Assign (a_value n ∷ token k.End ∷ stack) eq us e refl
 c_targets {eq = eq} {us = us} (bracketed_targets {open_ = t} {ts = ts} {close = close} h a i) e n stack =
-    run_takes (a_statement n) stack t ts (a_word n ∷ after_target n ∷ token k.Close ∷ token k.Assign ∷ a_value n ∷ token k.End ∷ []) (ap (statement_on n) h)
+    run_takes (a_statement n) stack t ts (a_word n ∷ after_target ∷ token k.Close ∷ token k.Assign ∷ a_value n ∷ token k.End ∷ []) (ap (statement_on n) h)
     ∙ c_names a (ap more_names i) n (token k.Close ∷ token k.Assign ∷ a_value n ∷ token k.End ∷ stack)
     ∙ takes_token k.Close (token k.Assign ∷ a_value n ∷ token k.End ∷ stack) close (eq ∷ us) i refl
     ∙ takes_token k.Assign (a_value n ∷ token k.End ∷ stack) eq us e refl

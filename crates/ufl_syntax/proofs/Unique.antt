@@ -288,11 +288,11 @@ u_targets (bracketed_targets h a i) end xs b others (bracketed_targets {close = 
 targets_rest : {ts : List Lexeme} {names : List Tok} {unpack : Bool} {rest : List Lexeme} → Targets ts names unpack rest → Ends more_names rest
     → (xs : List Tok) (b : Bool) (others : List Lexeme) → Targets ts xs b others → Ends more_names others → rest ≡ others
 targets_rest {ts = ts} {rest = rest} (bare_targets a) end xs b others (bare_targets a') end' =
-    one_rest (run (a_word 0 ∷ after_target 0 ∷ []) ts) rest others (c_names a end 0 []) (c_names a' end' 0 [])
+    one_rest (run (a_word 0 ∷ after_target ∷ []) ts) rest others (c_names a end 0 []) (c_names a' end' 0 [])
 targets_rest (bare_targets a) end xs b others (bracketed_targets {open_ = t} h' a' i') end' = absurd (clash_open t h' (names_name a))
 targets_rest (bracketed_targets {open_ = t} h a i) end xs b others (bare_targets a') end' = absurd (clash_open t h (names_name a'))
 targets_rest {rest = rest} (bracketed_targets {ts = ts} {close = c} h a i) end xs b others (bracketed_targets {close = d} h' a' i') end' =
-    (tails c d rest others (one_rest (run (a_word 0 ∷ after_target 0 ∷ []) ts) (c ∷ rest) (d ∷ others) (c_names a (ap more_names i) 0 []) (c_names a' (ap more_names i') 0 []))).1
+    (tails c d rest others (one_rest (run (a_word 0 ∷ after_target ∷ []) ts) (c ∷ rest) (d ∷ others) (c_names a (ap more_names i) 0 []) (c_names a' (ap more_names i') 0 []))).1
 
 op_one : (j : Class) (op x : AssignOp) → updates j op → updates j x → op ≡ x
 op_one k.AddAssign op x h i = h ∙ sym i

@@ -70,8 +70,8 @@ skips_may _ j e = refl
 
 empty : (q : Part) (ts : List Lexeme) → may_be_empty q ≡ true → Is q ts ts
 empty (statements n) ts h = ([], g.no_statement)
-empty (later_names n) ts h = ([], g.no_name)
-empty (after_target n) ts h = inl refl
+empty later_names ts h = ([], g.no_name)
+empty after_target ts h = inl refl
 empty (muls n) ts h = ([], g.no_mul)
 empty (a_statement n) ts h = cc
 empty (after_first n) ts h = cc
@@ -141,8 +141,8 @@ word t (a_statement n) rest =
     let eq = of_class t k.Assign in
     (name ∷ eq ∷ name ∷ end ∷ rest, first_of n name (eq ∷ name ∷ end ∷ rest) rest false refl (inl (eq, name ∷ end ∷ rest, refl, refl, (_, end, g.single (a_short_sum name (end ∷ rest) refl), refl))))
 word t (statements n) rest = (rest, empty (statements n) rest refl)
-word t (later_names n) rest = (rest, empty (later_names n) rest refl)
-word t (after_target n) rest = (rest, empty (after_target n) rest refl)
+word t later_names rest = (rest, empty later_names rest refl)
+word t after_target rest = (rest, empty after_target rest refl)
 word t (a_later n) rest = (rest, empty (a_later n) rest refl)
 word t (after_sum n) rest = (rest, empty (after_sum n) rest refl)
 word t (adds n) rest = (rest, empty (adds n) rest refl)

@@ -64,8 +64,8 @@ abbrev pub Is : Part → List Lexeme → List Lexeme → Type 0
 Is (statements n) ts rest = (sts : List Stmt) × g.File n ts sts rest
 Is (a_statement n) ts rest = (st : Stmt) × g.Statement n ts st rest
 Is (after_first n) ts rest = AfterFirst n ts rest
-Is (later_names n) ts rest = LaterNames ts rest
-Is (after_target n) ts rest = Comma LaterNames ts rest
+Is later_names ts rest = LaterNames ts rest
+Is after_target ts rest = Comma LaterNames ts rest
 Is (a_value n) ts rest = (e : Syn) × g.Value n ts e rest
 Is (a_later n) ts rest = (es : List Syn) × g.Later n ts es rest
 Is (after_sum n) ts rest = Comma (λ us vs. (es : List Syn) × g.Later n us es vs) ts rest
@@ -403,9 +403,9 @@ names_by : (t : Lexeme) (ts rest : List Lexeme) (b : Bool) → t.class ≡ k.Nam
 names_by t ts rest b e (inl h) = (t.tok ∷ [], subst (λ r. g.LaterNames (t ∷ ts) (t.tok ∷ []) r) h (g.last_name e))
 names_by t ts rest b e (inr h) = (t.tok ∷ h.4.0, subst (λ l. g.LaterNames (t ∷ l) (t.tok ∷ h.4.0) rest) (sym h.2) (g.further_name e h.3 h.4.1))
 
-names_back : (n : ℕ) (t : Lexeme) (ts rest : List Lexeme) (j : Class) → t.class ≡ j → AllOf (names_on n j) ts rest → LaterNames (t ∷ ts) rest
-names_back n t ts rest (k.Name b) e h = names_by t ts rest b e (one (after_target n) ts rest h)
-names_back n t ts rest _ e h = absurd h
+names_back : (t : Lexeme) (ts rest : List Lexeme) (j : Class) → t.class ≡ j → AllOf (names_on j) ts rest → LaterNames (t ∷ ts) rest
+names_back t ts rest (k.Name b) e h = names_by t ts rest b e (one after_target ts rest h)
+names_back t ts rest _ e h = absurd h
 
 -- an ended value, or one after `=`, of its parts
 ended_by : (n : ℕ) (ts rest : List Lexeme) → All (a_value n ∷ token k.End ∷ []) ts rest → Ended n ts rest
@@ -443,7 +443,7 @@ names_of t ts rest b e (inr h) =
     (t.tok ∷ h.4.0, true, subst (λ l. g.Names (t ∷ l) (t.tok ∷ h.4.0) true rest) (sym h.2) (g.several_names e h.3 h.4.1))
 
 bracket_back : (n : ℕ) (t : Lexeme) (ts rest : List Lexeme) → t.class ≡ k.Open
-    → All (a_word n ∷ after_target n ∷ token k.Close ∷ token k.Assign ∷ a_value n ∷ token k.End ∷ []) ts rest → Is (a_statement n) (t ∷ ts) rest
+    → All (a_word n ∷ after_target ∷ token k.Close ∷ token k.Assign ∷ a_value n ∷ token k.End ∷ []) ts rest → Is (a_statement n) (t ∷ ts) rest
 bracket_back n t ts rest e h =
     let w = h.1 in
     let a = names_of w.0 h.0 h.2.0 w.1 w.3 h.2.1 in
@@ -489,8 +489,8 @@ part_back (muls n) t ts rest h = muls_back n t ts rest t.class refl h
 part_back (statements n) t ts rest h = statements_back n t ts rest t.class refl h
 part_back (a_statement n) t ts rest h = statement_back n t ts rest t.class refl h
 part_back (after_first n) t ts rest h = first_back n t ts rest t.class refl h
-part_back (later_names n) t ts rest h = names_back n t ts rest t.class refl h
-part_back (after_target n) t ts rest h = comma_back (later_names n) t ts rest t.class refl h
+part_back later_names t ts rest h = names_back t ts rest t.class refl h
+part_back after_target t ts rest h = comma_back later_names t ts rest t.class refl h
 part_back (a_word n) t ts rest h = word_back n t ts rest t.class refl h
 part_back (a_signed n) t ts rest h = signed_back n t ts rest t.class refl h
 part_back (a_power n) t ts rest h = power_back n t ts rest t.class refl h

@@ -11,8 +11,8 @@ pub data Part : Type 0 where
   a_statement : ℕ → Part
   -- after a name that begins a statement
   after_first : ℕ → Part
-  later_names : ℕ → Part
-  after_target : ℕ → Part
+  later_names : Part
+  after_target : Part
   a_value : ℕ → Part
   a_later : ℕ → Part
   after_sum : ℕ → Part
@@ -133,20 +133,20 @@ name_on n k.Plus = adds_on n k.Plus
 name_on n k.Minus = adds_on n k.Minus
 name_on n k = then_ (posts_on n k) (a_power n ∷ muls n ∷ adds n ∷ [])
 
-abbrev pub names_on : ℕ → Class → Step
-names_on n (k.Name b) = takes (after_target n ∷ [])
-names_on n _ = skips
+abbrev pub names_on : Class → Step
+names_on (k.Name b) = takes (after_target ∷ [])
+names_on _ = skips
 
 abbrev pub first_on : ℕ → Class → Step
 first_on n k.Assign = takes (a_value n ∷ token k.End ∷ [])
 first_on n k.AddAssign = takes (a_value n ∷ token k.End ∷ [])
 first_on n k.SubAssign = takes (a_value n ∷ token k.End ∷ [])
-first_on n k.Comma = takes (later_names n ∷ token k.Assign ∷ a_value n ∷ token k.End ∷ [])
+first_on n k.Comma = takes (later_names ∷ token k.Assign ∷ a_value n ∷ token k.End ∷ [])
 first_on n _ = wrong
 
 abbrev pub statement_on : ℕ → Class → Step
 statement_on n (k.Name b) = takes (after_first n ∷ [])
-statement_on n k.Open = takes (a_word n ∷ after_target n ∷ token k.Close ∷ token k.Assign ∷ a_value n ∷ token k.End ∷ [])
+statement_on n k.Open = takes (a_word n ∷ after_target ∷ token k.Close ∷ token k.Assign ∷ a_value n ∷ token k.End ∷ [])
 statement_on n k.From = takes (token (k.Name true) ∷ token k.Import ∷ token k.Times ∷ token k.End ∷ [])
 statement_on n _ = wrong
 
@@ -186,8 +186,8 @@ abbrev pub part_on : Part → Class → Step
 part_on (statements n) k = maybe (then_ (statement_on n k) (statements n ∷ []))
 part_on (a_statement n) k = statement_on n k
 part_on (after_first n) k = first_on n k
-part_on (later_names n) k = names_on n k
-part_on (after_target n) k = comma_on (later_names n) k
+part_on later_names k = names_on k
+part_on after_target k = comma_on later_names k
 part_on (a_value n) k = then_ (sum_on n k) (after_sum n ∷ [])
 part_on (a_later n) k = maybe (then_ (sum_on n k) (after_sum n ∷ []))
 part_on (after_sum n) k = comma_on (a_later n) k
@@ -226,8 +226,8 @@ step (p ∷ stack) k = step_by (part_on p k) stack (step stack k)
 
 abbrev pub may_be_empty : Part → Bool
 may_be_empty (statements n) = true
-may_be_empty (later_names n) = true
-may_be_empty (after_target n) = true
+may_be_empty later_names = true
+may_be_empty after_target = true
 may_be_empty (a_later n) = true
 may_be_empty (after_sum n) = true
 may_be_empty (adds n) = true

@@ -1,4 +1,4 @@
-use Rattle.std.proofs.Common.{◌≡◌, ◌+◌, ◌<◌, ◌∷◌, ◌++◌, [], get_or, take, add-one, arith, subst, sym}
+use Rattle.std.proofs.Common.{◌<◌, ◌∷◌, [], get_or, arith, subst, sym}
 use Rattle.std.specs.Bool.{OnTrue}
 use Rattle.std.specs.Char.{digit_value}
 use Rattle.std.specs.Str.Parse.{AllDigits}

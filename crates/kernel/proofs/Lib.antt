@@ -1,0 +1,4 @@
+pub mod MassLaw
+pub mod MassRun
+pub mod Over
+pub mod Rules

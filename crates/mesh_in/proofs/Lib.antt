@@ -1,0 +1,9 @@
+pub mod FieldLemmas
+pub mod HeaderLemmas
+pub mod LineLemmas
+pub mod NumberLemmas
+pub mod ReadingLemmas
+pub mod RowLemmas
+pub mod StepLemmas
+pub mod StoredLemmas
+pub mod WordLemmas

@@ -1,0 +1,101 @@
+//! A mesh from its text.
+
+ghost use Rattle.std.specs.Prelude.{◌≡◌, ◌+◌, ◌*◌, ◌≤◌, [], List, IfOk, IfErr, Ok, length};
+ghost use Rattle.std.specs.List.{AllByRecursion};
+ghost use Rattle.std.specs.Str.Lines.{lines};
+ghost use Rattle.algebra.specs.Fraction.{Fraction};
+ghost use Rattle.spaces.specs.Cell.{dimension};
+ghost use Rattle.mesh_in.specs.Line.{words};
+ghost use Rattle.mesh_in.specs.MeshData.{IsCell, rows};
+ghost use Rattle.mesh_in.specs.MeshText.{longest, nothing, begun, header_of, after_header, reading, meaning};
+ghost use Rattle.mesh_in.specs.Reader.{remaining, points_of, Fails, Gives, IsRefusedBy};
+
+use crate::header::{Header, read_header};
+use crate::lines::{Line, Lines};
+use crate::mesh::Mesh;
+use crate::refusal::{MeshKind, MeshRefusal};
+use crate::rows::{push_cell, push_coordinates};
+use ratio::Ratio;
+use std::alloc::Global;
+
+/// The most bytes of a text.
+const LONGEST: usize = 67_108_864;
+
+/// The most vertices, and the most cells.
+const MOST: u32 = 1_000_000;
+
+fn first_row(line: Line<'_>) -> Result<Header, MeshRefusal>
+    ensures ok { IfOk result (λ header. after_header (header_of (words line.entry.text.now)) ≡ Ok (begun header [] [])) }
+    ensures err { IfErr result (λ e. IsRefusedBy e line.entry.number (after_header (header_of (words line.entry.text.now)))) }
+{
+    let Some(header) = read_header(line.text) else {
+        return Err(line.refused(MeshKind::Syntax));
+    };
+    if header.vertices > MOST || header.cells > MOST {
+        return Err(line.refused(MeshKind::Count));
+    }
+    Ok(header)
+}
+
+// The coordinates of all points. The vectors grow as the lines come, whatever the header promises.
+fn read_points(
+    alloc: Global,
+    lines: &mut Lines<'_>,
+    header: Header,
+) -> Result<Vec<Ratio>, MeshRefusal>
+    ensures fit { IfOk result (λ v. length v.items ≡ header.vertices * dimension header.kind) }
+    ensures ok { IfOk result (λ v. remaining lines.old (begun header [] []) ≡ remaining lines.new (begun header (points_of header header.vertices v.items) [])) }
+    ensures err { IfErr result (λ e. Fails e (remaining lines.old (begun header [] []))) }
+{
+    let mut coordinates = Vec::new(alloc);
+    'points: for _ in 0..header.vertices {
+        let line = lines.row()?;
+        push_coordinates(&mut coordinates, line, header.kind.dim())?;
+    }
+    Ok(coordinates)
+}
+
+// The vertices of all cells.
+fn read_cells(alloc: Global, lines: &mut Lines<'_>, header: Header) -> Result<Vec<u32>, MeshRefusal>
+    ensures fit { IfOk result (λ v. length v.items ≡ header.cells * (dimension header.kind + 1)) }
+    ensures cells { IfOk result (λ v. AllByRecursion (IsCell (dimension header.kind) header.vertices) (rows (dimension header.kind + 1) header.cells v.items)) }
+    ensures ok { IfOk result (λ v. (points : List (List Fraction)) → length points ≡ header.vertices →
+        remaining lines.old (begun header points []) ≡ remaining lines.new (begun header points (rows (dimension header.kind + 1) header.cells v.items))) }
+    ensures err { IfErr result (λ e. (points : List (List Fraction)) → length points ≡ header.vertices → Fails e (remaining lines.old (begun header points []))) }
+{
+    let mut corners = Vec::new(alloc);
+    'cells: for _ in 0..header.cells {
+        let line = lines.row()?;
+        push_cell(&mut corners, line, header)?;
+    }
+    Ok(corners)
+}
+
+fn read_lines(alloc: Global, text: &[u8]) -> Result<Mesh, MeshRefusal>
+    requires { length text.now ≤ longest }
+    ensures { Gives result (reading 0 nothing (lines text.now)) }
+{
+    let mut lines = Lines::new(text);
+    let line = lines.row()?;
+    let header = first_row(line)?;
+    let coordinates = read_points(alloc, &mut lines, header)?;
+    let corners = read_cells(alloc, &mut lines, header)?;
+    lines.end()?;
+    Ok(Mesh::new(header, coordinates, corners))
+}
+
+/// The mesh of a text, or what is wrong with its first bad line.
+///
+/// The format is in docs/FORMATS.md. Refusals are 1 to 6 of `MeshKind`, and `Memory` where memory runs out.
+pub fn read_mesh(alloc: Global, text: &[u8]) -> Result<Mesh, MeshRefusal>
+    ensures exact { Gives result (meaning text.now) }
+{
+    if text.len() > LONGEST {
+        return Err(MeshRefusal {
+            kind: MeshKind::TooLong,
+            line: 0,
+            cell: 0,
+        });
+    }
+    read_lines(alloc, text)
+}

@@ -1,0 +1,111 @@
+//! Texts, and the meshes or refusals that they are.
+
+use super::*;
+use ratio::Ratio;
+use spaces::Cell;
+use std::test::Fail;
+
+const TRIANGLE: &[u8] = b"mesh 1 triangle 3 1\n0 0\n1 0\n0 12\n0 1 2\n";
+
+#[test]
+fn reads_a_triangle(rt: HostRuntime) -> Result<(), Fail> {
+    let mesh = read_mesh(rt.alloc(), TRIANGLE)?;
+    assert_eq!(rt; mesh.kind(), Cell::Triangle);
+    assert_eq!(rt; mesh.vertices(), 3);
+    assert_eq!(rt; mesh.cells(), 1);
+    assert_eq!(rt; mesh.cell(0).vertices, [0, 1, 2].as_slice());
+    let point = mesh.point(2);
+    assert_eq!(rt; point[0].num(), 0);
+    assert_eq!(rt; point[1].num(), 12);
+    assert_eq!(rt; point[1].den(), 1);
+    Ok(())
+}
+
+#[test]
+fn takes_these_texts(rt: HostRuntime) {
+    let texts: [&[u8]; 8] = [
+        b"mesh 1 interval 0 0",
+        b"mesh 1 tetrahedron 0 0\n",
+        b"mesh 1 interval 2 1\r\n0\r\n2\r\n0 1\r\n",
+        b"# a mesh\r\n\n \t\nmesh\t1  interval 002 01 # two points\n0#\n\n#\r\r\n2\n1 0\n\n# \xff",
+        b"mesh 1 triangle 3 1\n0 0\n1 0\n0 1\n0 1 2",
+        b"mesh 1 tetrahedron 4 1\n0 0 0\n1 0 0\n0 1 0\n0 0 1\n3 2 1 0\n",
+        b"mesh 1 interval 1 0\n5\n\n\n",
+        b"mesh 1 interval 3 2\n0\n1\n4\n0 1\n1 2",
+    ];
+    for text in &texts {
+        assert!(rt; read_mesh(rt.alloc(), text).is_ok(), "{text:?}");
+    }
+}
+
+#[test]
+fn names_the_first_bad_line(rt: HostRuntime) {
+    let texts: [(&[u8], MeshKind, u32); 34] = [
+        (b"", MeshKind::Syntax, 0),
+        (b"\n", MeshKind::Syntax, 1),
+        (b"\n# nothing\n", MeshKind::Syntax, 2),
+        (b"mesh 01 interval 0 0\n", MeshKind::Syntax, 1),
+        (b"mesh 2 interval 0 0\n", MeshKind::Syntax, 1),
+        (b"Mesh 1 interval 0 0\n", MeshKind::Syntax, 1),
+        (b"mesh 1 quadrilateral 0 0\n", MeshKind::Syntax, 1),
+        (b"mesh 1 interval 0\n", MeshKind::Syntax, 1),
+        (b"mesh 1 interval 0 0 0\n", MeshKind::Syntax, 1),
+        (b"mesh 1 interval -1 0\n", MeshKind::Syntax, 1),
+        (b"mesh 1 interval 4294967296 0\n", MeshKind::Syntax, 1),
+        (b"mesh 1 interval 4294967295 0\n", MeshKind::Count, 1),
+        (b"mesh 1 interval 1000001 0\n", MeshKind::Count, 1),
+        (b"mesh 1 interval 0 1000001\n", MeshKind::Count, 1),
+        (b"mesh 1 interval 1000001 x\n", MeshKind::Syntax, 1),
+        (b"mesh 1 interval 1000001 \x01\n", MeshKind::Lex, 1),
+        (b"mesh 1 interval 1000000 1000000", MeshKind::Syntax, 1),
+        (b"mesh 1 interval 2 1\n0\n", MeshKind::Syntax, 2),
+        (b"mesh 1 interval 2 1\n0\n1\n\n#\n", MeshKind::Syntax, 5),
+        (b"mesh 1 interval 2 1\n0 0\n1\n0 1\n", MeshKind::Syntax, 2),
+        (b"mesh 1 triangle 1 0\n0\n", MeshKind::Syntax, 2),
+        (b"mesh 1 interval 1 0\nx\n", MeshKind::Syntax, 2),
+        (b"mesh 1 interval 1 0\n0\n0\n", MeshKind::Syntax, 3),
+        (b"mesh 1 interval 1 0\n0\n\n\x7f\n", MeshKind::Lex, 4),
+        (
+            b"mesh 1 interval 2 1\n0\n1\n0 2\n",
+            MeshKind::VertexRange,
+            4,
+        ),
+        (
+            b"mesh 1 interval 2 1\n0\n1\n2 2\n",
+            MeshKind::VertexRange,
+            4,
+        ),
+        (
+            b"mesh 1 interval 2 1\n0\n1\n1 01\n",
+            MeshKind::RepeatedVertex,
+            4,
+        ),
+        (b"mesh 1 interval 2 1\n0\n1\n0 1 0\n", MeshKind::Syntax, 4),
+        (
+            b"mesh 1 interval 3 1\n0\n1\n2\n0 9 x\n",
+            MeshKind::Syntax,
+            5,
+        ),
+        (
+            b"mesh 1 triangle 3 1\n0 0\n1 0\n0 1\n2 1 2\n",
+            MeshKind::RepeatedVertex,
+            5,
+        ),
+        (
+            b"mesh 1 triangle 3 1\n0 0\n1 0\n0 1\n0 1",
+            MeshKind::Syntax,
+            5,
+        ),
+        (b"mesh 1 interval 0 0\r", MeshKind::Lex, 1),
+        (b"mesh 1 interval 0 0\r\r\n", MeshKind::Lex, 1),
+        (b"mesh 1\rinterval 0 0\n", MeshKind::Lex, 1),
+    ];
+    for (text, kind, line) in &texts {
+        let refusal = read_mesh(rt.alloc(), text).err();
+        assert_eq!(rt;
+            refusal.map(|r| (r.kind, r.line, r.cell)),
+            Some((*kind, *line, 0)),
+            "{text:?}"
+        );
+    }
+}

@@ -1,0 +1,4 @@
+pub mod Exponents
+pub mod Terms
+pub mod Range
+pub mod Small

@@ -1,0 +1,17 @@
+//! Polynomials in the coordinates of a reference cell, with exact coefficients.
+//!
+//! A `Poly` is a sorted list of terms with distinct exponents and no zero coefficient. Sums, products, multiples and partial
+//! derivatives are exact, or are refused where a step on coefficients does not fit. `ref_integral` is the integral over the
+//! reference cell.
+#![tactic(auto)]
+
+mod fault;
+mod term;
+mod terms;
+mod scaled;
+mod sum;
+mod poly;
+
+pub use fault::PolyFault;
+pub use poly::Poly;
+pub use term::Term;

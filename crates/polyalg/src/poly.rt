@@ -1,0 +1,107 @@
+//! Polynomials as sorted lists of terms.
+
+ghost use Rattle.std.specs.Prelude.{◌≡◌, ◌<◌, ◌≤◌, IfOk};
+ghost use Rattle.ratio.specs.Value.{fraction_of};
+ghost use Rattle.calculus.specs.Polynomial.{monomial, constant as constant_polynomial, coordinate, plus, times, derivative};
+ghost use Rattle.polyalg.specs.Terms.{value_of, IsPoly};
+ghost use Rattle.polyalg.specs.Range.{product_passes, derivative_passes, sum_passes, RangeWhere};
+ghost use Rattle.polyalg.specs.Exponents.{total};
+
+use crate::fault::PolyFault;
+use crate::scaled::{derived, scaled};
+use crate::sum::merged;
+use crate::term::Term;
+use ratio::Ratio;
+use std::alloc::{AllocError, Global};
+use std::marker::Model;
+
+/// A polynomial in the coordinates of a reference cell: terms with distinct exponents and coefficients that aren't 0, sorted
+/// by the exponent of variable 0, then 1, then 2, the smallest first. Its degree is at most 65,535.
+#[derive(Drop)]
+pub struct Poly {
+    terms: Vec<Term>,
+}
+
+impl Model for Poly {
+    ghost use Rattle.std.specs.Prelude.{List};
+    ghost use Rattle.polyalg.specs.declared.term.Term.{Term};
+
+    ghost Value = { List Term };
+
+    ghost use Rattle.polyalg.specs.Terms.{IsPoly};
+
+    ghost view = { λ p. p.terms.items };
+
+    ghost invariant = { λ p. IsPoly p.terms.items };
+}
+
+impl Poly {
+    /// The terms in order.
+    pub fn terms(&self) -> &[Term]
+        ensures same { result.now ≡ self.now }
+        ensures lawful { IsPoly self.now }
+    {
+        self.terms.as_slice()
+    }
+
+    /// The polynomial without a variable.
+    pub fn constant(alloc: Global, c: Ratio) -> Result<Poly, AllocError>
+        ensures { IfOk result (λ p. value_of p ≡ constant_polynomial (fraction_of c)) }
+    {
+        single(alloc, [0, 0, 0], c)
+    }
+
+    /// The polynomial that is variable k.
+    pub fn variable(alloc: Global, k: u8) -> Result<Poly, AllocError>
+        requires { k < 3 }
+        ensures { IfOk result (λ p. value_of p ≡ coordinate k) }
+    {
+        let e = match k {
+            0 => [1, 0, 0],
+            1 => [0, 1, 0],
+            _ => [0, 0, 1],
+        };
+        single(alloc, e, Ratio::one())
+    }
+
+    /// The sum. `Range` exactly where a sum of two coefficients of the same exponents passes.
+    pub fn add(&self, alloc: Global, o: &Poly) -> Result<Poly, PolyFault>
+        ensures value { IfOk result (λ p. value_of p ≡ plus (value_of self.now) (value_of o.now)) }
+        ensures range { RangeWhere (sum_passes self.now o.now) result }
+    {
+        let terms = merged(alloc, self.terms.as_slice(), o.terms.as_slice())?;
+        Ok(Poly { terms })
+    }
+
+    /// The polynomial times c. `Range` exactly where the product of a coefficient with c passes.
+    pub fn scale(&self, alloc: Global, c: Ratio) -> Result<Poly, PolyFault>
+        ensures value { IfOk result (λ p. value_of p ≡ times (constant_polynomial (fraction_of c)) (value_of self.now)) }
+        ensures range { RangeWhere (product_passes (fraction_of c) self.now) result }
+    {
+        let terms = scaled(alloc, self.terms.as_slice(), c)?;
+        Ok(Poly { terms })
+    }
+
+    /// The partial derivative in variable k. `Range` exactly where the product of a coefficient with its exponent passes.
+    pub fn derive(&self, alloc: Global, k: u8) -> Result<Poly, PolyFault>
+        requires { k < 3 }
+        ensures value { IfOk result (λ p. value_of p ≡ derivative k (value_of self.now)) }
+        ensures range { RangeWhere (derivative_passes k self.now) result }
+    {
+        let terms = derived(alloc, self.terms.as_slice(), k)?;
+        Ok(Poly { terms })
+    }
+}
+
+/// The polynomial of one term.
+fn single(alloc: Global, e: [u32; 3], c: Ratio) -> Result<Poly, AllocError>
+    requires { total e ≤ 65535 }
+    ensures { IfOk result (λ p. value_of p ≡ monomial (fraction_of c) e) }
+{
+    let mut terms = Vec::new(alloc);
+    if c.is_zero() {
+        return Ok(Poly { terms });
+    }
+    terms.push(Term { e, c })?;
+    Ok(Poly { terms })
+}

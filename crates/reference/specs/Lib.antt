@@ -1,0 +1,2 @@
+pub mod TermValue
+pub mod PolyValue

@@ -1,0 +1,320 @@
+// Values by recursive descent: a function for each part of the grammar, which answers the part and the place after it.
+// `room` is how many brackets, signs and `**` may still be open inside.
+
+ghost use Rattle.std.specs.Prelude.{[], ◌∷◌, ◌++◌, ◌≡◌, List, IfOk};
+ghost use Rattle.ufl_syntax.specs.Grammar.{Value, Later, Sum, Term, Signed, Postfix, OnePost, Args, OneArg, Atom};
+ghost use Rattle.ufl_syntax.specs.Grammar.{chain as as_chain, applied as as_applied};
+ghost use Rattle.ufl_syntax.specs.Machine.{a_value, a_later, a_sum, a_term, a_signed, a_postfix, an_atom, a_post, args, an_arg};
+ghost use Rattle.ufl_syntax.specs.declared.tree.Syn.{Syn};
+ghost use Rattle.ufl_read.specs.Reads.{Reads};
+
+use crate::tokens::{Fault, deeper, expect, expect_name, factors, follows, keyed, peek, same, signs, starts};
+use sqlite_items::{Boxed, Items};
+use std::alloc::{AllocError, Global};
+use ufl_syntax::{Arg, Class, Lexeme, Next, Post, Syn};
+
+// A chain of one part is that part.
+fn chained<'a>(
+    alloc: Global,
+    first: Syn<'a>,
+    chain: Items<Next<'a>>,
+) -> Result<Syn<'a>, AllocError>
+    ensures { IfOk result (λ e. e ≡ as_chain first.entry chain.entry) }
+{
+    if chain.is_empty() {
+        return Ok(first);
+    }
+    Ok(Syn::Binary(Boxed::new(alloc, first)?, chain))
+}
+
+fn applied<'a>(alloc: Global, first: Syn<'a>, all: Items<Post<'a>>) -> Result<Syn<'a>, AllocError>
+    ensures { IfOk result (λ e. e ≡ as_applied first.entry all.entry) }
+{
+    if all.is_empty() {
+        return Ok(first);
+    }
+    Ok(Syn::Postfix(Boxed::new(alloc, first)?, all))
+}
+
+#[cycle(reader)]
+pub fn value<'a>(
+    alloc: Global,
+    tokens: &[Lexeme<'a>],
+    at: usize,
+    room: u32,
+) -> Result<(Syn<'a>, usize), Fault>
+    ensures { Reads (λ r ts rest. Value room ts r.0 rest) (λ r. r.1) (a_value room) tokens.now at result }
+{
+    let (first, past) = sum(alloc, tokens, at, room)?;
+    let Some(comma) = peek(tokens, past) else {
+        return Ok((first, past));
+    };
+    if !same(Class::Comma, comma.class) {
+        return Ok((first, past));
+    }
+    let mut before = Items::new(alloc);
+    before.push(first)?;
+    let (items, end) = later(alloc, tokens, past + 1, room, before)?;
+    Ok((Syn::Tuple(comma.tok, items), end))
+}
+
+// The items that may stand after a comma or in a list's brackets, behind those before.
+#[cycle(reader)]
+fn later<'a>(
+    alloc: Global,
+    tokens: &[Lexeme<'a>],
+    from: usize,
+    room: u32,
+    before: Items<Syn<'a>>,
+) -> Result<(Items<Syn<'a>>, usize), Fault>
+    ensures { Reads (λ r ts rest. (es : List Syn) × Later room ts es rest × (r.0 ≡ before.entry ++ es)) (λ r. r.1) (a_later room) tokens.now from result }
+{
+    let mut items = before;
+    let mut at = from;
+    'all: loop {
+        let Some(first) = peek(tokens, at) else {
+            return Ok((items, at));
+        };
+        if !starts(first.class) {
+            return Ok((items, at));
+        }
+        let (item, past) = sum(alloc, tokens, at, room)?;
+        items.push(item)?;
+        let Some(comma) = peek(tokens, past) else {
+            return Ok((items, past));
+        };
+        if !same(Class::Comma, comma.class) {
+            return Ok((items, past));
+        }
+        at = past + 1;
+    }
+}
+
+#[cycle(reader)]
+fn sum<'a>(
+    alloc: Global,
+    tokens: &[Lexeme<'a>],
+    from: usize,
+    room: u32,
+) -> Result<(Syn<'a>, usize), Fault>
+    ensures { Reads (λ r ts rest. Sum room ts r.0 rest) (λ r. r.1) (a_sum room) tokens.now from result }
+{
+    let (first, past) = term(alloc, tokens, from, room)?;
+    let mut at = past;
+    let mut chain = Items::new(alloc);
+    'all: loop {
+        let Some(op) = peek(tokens, at) else {
+            return Ok((chained(alloc, first, chain)?, at));
+        };
+        if !signs(op.class) {
+            return Ok((chained(alloc, first, chain)?, at));
+        }
+        let (right, end) = term(alloc, tokens, at + 1, room)?;
+        chain.push(Next { op: op.tok, right })?;
+        at = end;
+    }
+}
+
+#[cycle(reader)]
+fn term<'a>(
+    alloc: Global,
+    tokens: &[Lexeme<'a>],
+    from: usize,
+    room: u32,
+) -> Result<(Syn<'a>, usize), Fault>
+    ensures { Reads (λ r ts rest. Term room ts r.0 rest) (λ r. r.1) (a_term room) tokens.now from result }
+{
+    let (first, past) = signed(alloc, tokens, from, room)?;
+    let mut at = past;
+    let mut chain = Items::new(alloc);
+    'all: loop {
+        let Some(op) = peek(tokens, at) else {
+            return Ok((chained(alloc, first, chain)?, at));
+        };
+        if !factors(op.class) {
+            return Ok((chained(alloc, first, chain)?, at));
+        }
+        let (right, end) = signed(alloc, tokens, at + 1, room)?;
+        chain.push(Next { op: op.tok, right })?;
+        at = end;
+    }
+}
+
+// A sign binds looser than `**` to its right, and tighter to its left.
+#[cycle(reader)]
+fn signed<'a>(
+    alloc: Global,
+    tokens: &[Lexeme<'a>],
+    at: usize,
+    room: u32,
+) -> Result<(Syn<'a>, usize), Fault>
+    ensures { Reads (λ r ts rest. Signed room ts r.0 rest) (λ r. r.1) (a_signed room) tokens.now at result }
+{
+    let Some(first) = peek(tokens, at) else {
+        return Err(Fault::Short);
+    };
+    if signs(first.class) {
+        let inside = deeper(room, at)?;
+        let (inner, end) = signed(alloc, tokens, at + 1, inside)?;
+        return Ok((Syn::Sign(first.tok, Boxed::new(alloc, inner)?), end));
+    }
+    let (base, past) = postfix(alloc, tokens, at, room)?;
+    let Some(op) = peek(tokens, past) else {
+        return Ok((base, past));
+    };
+    if !same(Class::Power, op.class) {
+        return Ok((base, past));
+    }
+    let inside = deeper(room, past)?;
+    let (right, end) = signed(alloc, tokens, past + 1, inside)?;
+    let mut chain = Items::new(alloc);
+    chain.push(Next { op: op.tok, right })?;
+    Ok((Syn::Binary(Boxed::new(alloc, base)?, chain), end))
+}
+
+#[cycle(reader)]
+fn postfix<'a>(
+    alloc: Global,
+    tokens: &[Lexeme<'a>],
+    from: usize,
+    room: u32,
+) -> Result<(Syn<'a>, usize), Fault>
+    ensures { Reads (λ r ts rest. Postfix room ts r.0 rest) (λ r. r.1) (a_postfix room) tokens.now from result }
+{
+    let (first, past) = atom(alloc, tokens, from, room)?;
+    let mut at = past;
+    let mut all = Items::new(alloc);
+    'all: loop {
+        let Some(next) = peek(tokens, at) else {
+            return Ok((applied(alloc, first, all)?, at));
+        };
+        if !follows(next.class) {
+            return Ok((applied(alloc, first, all)?, at));
+        }
+        let (one, end) = post(alloc, tokens, at, room)?;
+        all.push(one)?;
+        at = end;
+    }
+}
+
+#[cycle(reader)]
+fn post<'a>(
+    alloc: Global,
+    tokens: &[Lexeme<'a>],
+    at: usize,
+    room: u32,
+) -> Result<(Post<'a>, usize), Fault>
+    ensures { Reads (λ r ts rest. OnePost room ts r.0 rest) (λ r. r.1) (a_post room) tokens.now at result }
+{
+    let Some(first) = peek(tokens, at) else {
+        return Err(Fault::Short);
+    };
+    match first.class {
+        Class::Open => {
+            let inside = deeper(room, at)?;
+            let (given, past) = arguments(alloc, tokens, at + 1, inside)?;
+            let (_close, end) = expect(tokens, past, Class::Close)?;
+            Ok((Post::Call(first.tok, given), end))
+        }
+        Class::OpenList => {
+            let inside = deeper(room, at)?;
+            let (inner, past) = value(alloc, tokens, at + 1, inside)?;
+            let (_close, end) = expect(tokens, past, Class::CloseList)?;
+            Ok((Post::Index(first.tok, Boxed::new(alloc, inner)?), end))
+        }
+        Class::Dot => {
+            let (name, end) = expect_name(tokens, at + 1, room)?;
+            Ok((Post::Attr(name.tok), end))
+        }
+        _ => Err(Fault::Wrong(at)),
+    }
+}
+
+#[cycle(reader)]
+fn arguments<'a>(
+    alloc: Global,
+    tokens: &[Lexeme<'a>],
+    from: usize,
+    room: u32,
+) -> Result<(Items<Arg<'a>>, usize), Fault>
+    ensures { Reads (λ r ts rest. Args room ts r.0 rest) (λ r. r.1) (args room) tokens.now from result }
+{
+    let mut all = Items::new(alloc);
+    let mut at = from;
+    'all: loop {
+        let Some(first) = peek(tokens, at) else {
+            return Ok((all, at));
+        };
+        if !starts(first.class) {
+            return Ok((all, at));
+        }
+        let (item, past) = argument(alloc, tokens, at, room)?;
+        all.push(item)?;
+        let Some(comma) = peek(tokens, past) else {
+            return Ok((all, past));
+        };
+        if !same(Class::Comma, comma.class) {
+            return Ok((all, past));
+        }
+        at = past + 1;
+    }
+}
+
+// Its second token says whether it has a keyword.
+#[cycle(reader)]
+fn argument<'a>(
+    alloc: Global,
+    tokens: &[Lexeme<'a>],
+    at: usize,
+    room: u32,
+) -> Result<(Arg<'a>, usize), Fault>
+    ensures { Reads (λ r ts rest. OneArg room ts r.0 rest) (λ r. r.1) (an_arg room) tokens.now at result }
+{
+    let Some(name) = peek(tokens, at) else {
+        return Err(Fault::Short);
+    };
+    let is_keyed = match peek(tokens, at + 1) {
+        Some(sign) => keyed(name.class, sign.class),
+        None => false,
+    };
+    if is_keyed {
+        let (value, end) = sum(alloc, tokens, at + 2, room)?;
+        let name = Some(name.tok);
+        return Ok((Arg { name, value }, end));
+    }
+    let (value, end) = sum(alloc, tokens, at, room)?;
+    Ok((Arg { name: None, value }, end))
+}
+
+#[cycle(reader)]
+fn atom<'a>(
+    alloc: Global,
+    tokens: &[Lexeme<'a>],
+    at: usize,
+    room: u32,
+) -> Result<(Syn<'a>, usize), Fault>
+    ensures { Reads (λ r ts rest. Atom room ts r.0 rest) (λ r. r.1) (an_atom room) tokens.now at result }
+{
+    let Some(first) = peek(tokens, at) else {
+        return Err(Fault::Short);
+    };
+    match first.class {
+        Class::Name(_) => Ok((Syn::Name(first.tok), at + 1)),
+        Class::Number => Ok((Syn::Number(first.tok), at + 1)),
+        Class::Text => Ok((Syn::Text(first.tok), at + 1)),
+        Class::Open => {
+            let inside = deeper(room, at)?;
+            let (inner, past) = value(alloc, tokens, at + 1, inside)?;
+            let (_close, end) = expect(tokens, past, Class::Close)?;
+            Ok((inner, end))
+        }
+        Class::OpenList => {
+            let inside = deeper(room, at)?;
+            let before = Items::new(alloc);
+            let (items, past) = later(alloc, tokens, at + 1, inside, before)?;
+            let (_close, end) = expect(tokens, past, Class::CloseList)?;
+            Ok((Syn::List(first.tok, items), end))
+        }
+        _ => Err(Fault::Wrong(at)),
+    }
+}
