@@ -2,3 +2,11 @@ pub mod Pieces
 pub mod Layout
 pub mod Appends
 pub mod Parts
+pub mod Stream
+pub mod Parser
+pub mod Numbers
+pub mod Places
+pub mod Lowest
+pub mod Fractions
+pub mod Statements
+pub mod Units

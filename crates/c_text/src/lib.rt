@@ -4,7 +4,18 @@
 //! definitions of `specs/`, and `docs/KERNEL_TEXT.md` describes both.
 #![tactic(auto)]
 
+mod fraction;
+mod number;
+mod parser;
+mod place;
 mod print;
+mod read;
+mod refusal;
+mod statement;
+#[cfg(test)]
+mod tests;
 
 pub use c_unit::{Array, CFun, CStmt, CUnit, Op, Place, Slot};
 pub use print::print_unit;
+pub use refusal::{KernelKind, KernelRefusal};
+pub use read::{ReadUnit, read_unit};

@@ -1,0 +1,260 @@
+// Functions and units.
+
+ghost use Rattle.std.specs.Prelude.{◌≡◌, ◌<◌, ◌≤◌, OnOk, IfOk, option_map};
+ghost use Rattle.c_text.specs.Stream.{Gives};
+ghost use Rattle.c_text.specs.Parser.{stream, left};
+ghost use Rattle.c_text.specs.Units.{without_suffix as front_of, is_among as is_name_of_one, name_at, size_at, named_size_at, repeated_at, signature_at, clear_at, slots_at, end_at, sizes_at, is_more as is_more_ahead, is_lex};
+
+use c_unit::{CFun, CUnit};
+use sqlite_items::Items;
+use std::alloc::Global;
+
+use crate::fraction::LARGEST;
+use crate::parser::{Parser, syntax};
+use crate::place::{Scope, refused};
+use crate::refusal::{KernelKind, KernelRefusal, ReadFault};
+use crate::statement::Body;
+
+/// The greatest number of bytes.
+const LONGEST: usize = 0x1000_0000;
+
+/// The greatest number of statements that a function may run.
+const STATEMENTS: u64 = 0x400_0000;
+
+/// A unit, and per function the line of its `enum` and the line of each statement in the order of the text, a loop's header counted as one.
+#[derive(Drop)]
+pub struct ReadUnit {
+    pub unit: CUnit,
+    pub enums: Items<u32>,
+    pub lines: Items<Items<u32>>,
+}
+
+#[derive(Drop)]
+struct ReadFun {
+    fun: CFun,
+    line: u32,
+    lines: Items<u32>,
+}
+
+// The text without the suffix, where it ends in it.
+#[tactic(auto, unfolding(crate::specs::Units::without_suffix))]
+fn without_suffix<'t>(text: &'t [u8], suffix: &[u8]) -> Option<&'t [u8]>
+    ensures { option_map (λ front. front.now) result ≡ front_of text.now suffix.now }
+{
+    if text.len() < suffix.len() {
+        return None;
+    }
+    let (front, back) = text.split_at(text.len() - suffix.len());
+    if back == suffix { Some(front) } else { None }
+}
+
+fn is_among(funs: &[CFun], name: &[u8]) -> bool
+    ensures { result ≡ is_name_of_one funs.now name.now }
+{
+    for fun in funs {
+        if fun.name.as_slice() == name {
+            return true;
+        }
+    }
+    false
+}
+
+impl<'a> Parser<'a> {
+    // The name of a function, from the first word between the brackets.
+    #[tactic(auto, unfolding(crate::specs::Units::name_at))]
+    fn name(&mut self, funs: &[CFun]) -> Result<&'a [u8], ReadFault>
+        ensures read { Gives (λ n. n.now) result (stream self.new) (name_at funs.now (stream self.old)) }
+        ensures shorter { OnOk result (left self.new < left self.old) }
+    {
+        let token = self.shift()?;
+        let Some(name) = without_suffix(token.text, b"_X") else {
+            return Err(syntax(token.line));
+        };
+        if name.is_empty() {
+            return Err(syntax(token.line));
+        }
+        if is_among(funs, name) {
+            return Err(refused(KernelKind::Bound, token.line));
+        }
+        Ok(name)
+    }
+
+    // The size behind a word between the brackets.
+    #[tactic(auto, unfolding(crate::specs::Units::size_at))]
+    fn size(&mut self, least: u32) -> Result<u32, ReadFault>
+        ensures read { Gives (λ x. x) result (stream self.new) (size_at least (stream self.old)) }
+        ensures shorter { OnOk result (left self.new < left self.old) }
+    {
+        self.expect(b"=")?;
+        let (size, line) = self.number()?;
+        if size < least || size > LARGEST {
+            return Err(refused(KernelKind::Bound, line));
+        }
+        Ok(size)
+    }
+
+    // A further size, with its word.
+    #[tactic(auto, unfolding(crate::specs::Units::named_size_at))]
+    fn named_size(&mut self, name: &[u8], suffix: &[u8], least: u32) -> Result<u32, ReadFault>
+        ensures read { Gives (λ x. x) result (stream self.new) (named_size_at name.now suffix.now least (stream self.old)) }
+        ensures shorter { OnOk result (left self.new < left self.old) }
+    {
+        self.expect(b",")?;
+        let token = self.shift()?;
+        match without_suffix(token.text, suffix) {
+            Some(front) if front == name => self.size(least),
+            _ => Err(syntax(token.line)),
+        }
+    }
+
+    // A size for the second or third time.
+    #[tactic(auto, unfolding(crate::specs::Units::repeated_at))]
+    fn repeated(&mut self, size: u32) -> Result<(), ReadFault>
+        ensures read { Gives (λ x. x) result (stream self.new) (repeated_at size (stream self.old)) }
+        ensures shorter { OnOk result (left self.new < left self.old) }
+    {
+        let (again, line) = self.number()?;
+        if again != size {
+            return Err(refused(KernelKind::Bound, line));
+        }
+        Ok(())
+    }
+
+    #[tactic(auto, unfolding(crate::specs::Units::signature_at))]
+    fn signature(&mut self, name: &[u8]) -> Result<(), ReadFault>
+        ensures read { Gives (λ x. x) result (stream self.new) (signature_at name.now (stream self.old)) }
+        ensures shorter { OnOk result (left self.new < left self.old) }
+    {
+        self.expect(b"int")?;
+        self.expect(name)?;
+        self.expect_all(&[b"(", b"const", b"fr", b"*", b"X", b",", b"const", b"fr", b"*", b"W", b",", b"fr", b"*", b"A", b")"])
+    }
+
+    // The call that clears an array.
+    #[tactic(auto, unfolding(crate::specs::Units::clear_at))]
+    fn clear(&mut self, array: &[u8], size: u32) -> Result<(), ReadFault>
+        ensures read { Gives (λ x. x) result (stream self.new) (clear_at array.now size (stream self.old)) }
+        ensures shorter { OnOk result (left self.new < left self.old) }
+    {
+        self.expect_all(&[b"fr_clear", b"(", array, b","])?;
+        self.repeated(size)?;
+        self.expect_all(&[b")", b";"])
+    }
+
+    // The slots of T, and the two clears.
+    #[tactic(auto, unfolding(crate::specs::Units::slots_at))]
+    fn slots(&mut self, t: u32, a: u32) -> Result<(), ReadFault>
+        ensures read { Gives (λ x. x) result (stream self.new) (slots_at t a (stream self.old)) }
+        ensures shorter { OnOk result (left self.new < left self.old) }
+    {
+        self.expect_all(&[b"{", b"fr", b"T", b"["])?;
+        self.repeated(t)?;
+        self.expect_all(&[b"]", b";"])?;
+        self.clear(b"T", t)?;
+        self.clear(b"A", a)
+    }
+
+    // The end of a function, which runs this many statements.
+    #[tactic(auto, unfolding(crate::specs::Units::end_at))]
+    fn end_of_function(&mut self, count: u64) -> Result<(), ReadFault>
+        ensures read { Gives (λ x. x) result (stream self.new) (end_at count (stream self.old)) }
+        ensures shorter { OnOk result (left self.new < left self.old) }
+    {
+        self.expect_all(&[b"return", b"0", b";"])?;
+        let line = self.expect(b"}")?;
+        if count > STATEMENTS {
+            return Err(refused(KernelKind::Bound, line));
+        }
+        Ok(())
+    }
+
+    // The sizes of the arrays, and the name.
+    #[tactic(auto, unfolding(crate::specs::Units::sizes_at))]
+    fn sizes(&mut self, funs: &[CFun]) -> Result<(&'a [u8], Scope), ReadFault>
+        ensures read { Gives (λ x. (x.0.now, x.1)) result (stream self.new) (sizes_at funs.now (stream self.old)) }
+        ensures shorter { OnOk result (left self.new < left self.old) }
+        ensures outside { IfOk result (λ x. x.1.depth ≡ 0) }
+    {
+        self.expect(b"{")?;
+        let name = self.name(funs)?;
+        let x = self.size(0)?;
+        let w = self.named_size(name, b"_W", 0)?;
+        let t = self.named_size(name, b"_T", 1)?;
+        let a = self.named_size(name, b"_A", 0)?;
+        self.expect_all(&[b"}", b";"])?;
+        Ok((name, Scope { x, w, t, a, turns: [1; 4], depth: 0 }))
+    }
+
+    fn function(&mut self, alloc: Global, funs: &[CFun]) -> Result<ReadFun, ReadFault>
+        ensures shorter { OnOk result (left self.new < left self.old) }
+    {
+        let line = self.expect(b"enum")?;
+        let (name, scope) = self.sizes(funs)?;
+        self.signature(name)?;
+        self.slots(scope.t, scope.a)?;
+        let tables = self.tables(alloc)?;
+        let Body { statements, lines, count } = self.body(alloc, &scope, tables.as_slice())?;
+        self.end_of_function(count)?;
+        let name = Items::from_slice(alloc, name)?;
+        let fun = CFun { name, x: scope.x, w: scope.w, t: scope.t, a: scope.a, tables, body: statements };
+        Ok(ReadFun { fun, line, lines })
+    }
+
+    // All functions up to the end of the text.
+    fn functions(&mut self, alloc: Global) -> Result<ReadUnit, ReadFault>
+    {
+        let mut funs = Items::new(alloc);
+        let mut enums = Items::new(alloc);
+        let mut all_lines = Items::new(alloc);
+        'all: loop {
+            if !self.is_more() {
+                return Ok(ReadUnit { unit: CUnit { funs }, enums, lines: all_lines });
+            }
+            let ReadFun { fun, line, lines } = self.function(alloc, funs.as_slice())?;
+            funs.push(fun)?;
+            enums.push(line)?;
+            all_lines.push(lines)?;
+        }
+    }
+
+    #[tactic(auto, unfolding(crate::specs::Units::is_more, crate::specs::Stream::stream_behind))]
+    fn is_more(&self) -> bool
+        ensures { result ≡ is_more_ahead (stream self.now) }
+    {
+        self.ahead.is_some()
+    }
+
+    // Whether no token starts behind the last one.
+    fn is_lost(&self) -> bool
+        ensures lost { result ≡ is_lex self.now.end.kind }
+    {
+        match self.end.kind {
+            KernelKind::Lex => true,
+            _ => false,
+        }
+    }
+}
+
+fn read_all(alloc: Global, text: &[u8]) -> Result<ReadUnit, ReadFault>
+{
+    if text.len() > LONGEST {
+        return Err(refused(KernelKind::TooLong, 0));
+    }
+    let mut parser = Parser::new(text);
+    parser.expect_all(&[b"#include", b"\"fr.h\""])?;
+    let unit = parser.functions(alloc)?;
+    if parser.is_lost() {
+        return Err(ReadFault::Refused(parser.end));
+    }
+    Ok(unit)
+}
+
+/// The unit of a text, or the first place where it is refused.
+pub fn read_unit(alloc: Global, text: &[u8]) -> Result<ReadUnit, KernelRefusal>
+{
+    match read_all(alloc, text) {
+        Ok(unit) => Ok(unit),
+        Err(ReadFault::Refused(refusal)) => Err(refusal),
+        Err(ReadFault::Memory) => Err(KernelRefusal { kind: KernelKind::Memory, line: 0 }),
+    }
+}
