@@ -18,3 +18,4 @@ pub use fault::PolyFault;
 pub use integral::ref_integral;
 pub use poly::Poly;
 pub use term::Term;
+pub use terms::{quotient, whole};

@@ -1,0 +1,2 @@
+pub mod FactorLaws
+pub mod NodeLaws

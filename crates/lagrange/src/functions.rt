@@ -1,0 +1,139 @@
+//! Basis functions, by Silvester's formula.
+
+ghost use Rattle.std.specs.Prelude.{◌≡◌, ◌+◌, ◌<◌, ◌≤◌, [], length, IfOk, slice_index_or};
+ghost use Rattle.calculus.specs.Polynomial.{times};
+ghost use Rattle.calculus.specs.Simplex.{reference};
+ghost use Rattle.calculus.specs.LocalFunction.{degree_of as weight_sum, local_function, vertex_factor, factorial};
+ghost use Rattle.calculus.proofs.Barycentric.{basis_coordinate};
+ghost use Rattle.calculus.proofs.LocalFunctions.{factors_of};
+ghost use Rattle.polyalg.specs.Terms.{value_of};
+ghost use Rattle.polyalg.specs.Products.{degree_of};
+ghost use Rattle.spaces.specs.Cell.{dimension};
+ghost use Rattle.spaces.specs.Family.{node_count};
+ghost use Rattle.lagrange.specs.Nodes.{nodes_of};
+
+use crate::node_tables::weights;
+use polyalg::{Poly, PolyFault, quotient, whole};
+use ratio::Ratio;
+use spaces::Cell;
+use std::alloc::{AllocError, Global};
+
+/// The basis function of a local node on the reference cell: the product over the vertices of `(1/a!)` times the factors
+/// `q*b - m` for m below a, with q the degree, a the weight of the node at the vertex and b the vertex's barycentric coordinate.
+///
+/// The numbers stay so small that no step of it passes: want of memory is the only refusal.
+pub fn basis(alloc: Global, cell: Cell, degree: u8, node: u8) -> Result<Poly, AllocError>
+    requires degree { degree ≤ 3 }
+    requires node { node < node_count cell degree }
+    ensures { IfOk result (λ p. value_of p ≡ local_function (reference (dimension cell)) (slice_index_or (nodes_of cell degree) node [])) }
+{
+    let at = weights(cell, degree)[node as usize];
+    match product(alloc, cell.dim(), degree, at) {
+        Ok(function) => Ok(function),
+        Err(_) => Err(AllocError),
+    }
+}
+
+/// The product of the factors of the vertices, four of them.
+fn product(alloc: Global, d: u8, q: u8, weights: [u8; 4]) -> Result<Poly, PolyFault>
+    requires dimension { d ≤ 3 }
+    requires few { q ≤ 3 }
+    requires sum { weight_sum weights ≤ q }
+    requires four { length weights ≡ 4 }
+    ensures { IfOk result (λ p. value_of p ≡ factors_of q (basis_coordinate d) 0 weights) }
+{
+    let one = Poly::constant(alloc, Ratio::one())?;
+    let first = with_factor(alloc, &one, d, q, 0, weights[0])?;
+    let second = with_factor(alloc, &first, d, q, 1, weights[1])?;
+    let third = with_factor(alloc, &second, d, q, 2, weights[2])?;
+    let function = with_factor(alloc, &third, d, q, 3, weights[3])?;
+    Ok(function)
+}
+
+/// The polynomial times the factor of vertex j with this weight.
+fn with_factor(
+    alloc: Global,
+    others: &Poly,
+    d: u8,
+    q: u8,
+    j: u8,
+    weight: u8,
+) -> Result<Poly, PolyFault>
+    requires dimension { d ≤ 3 }
+    requires vertex { j ≤ 3 }
+    requires few { weight ≤ 3 }
+    requires degree { degree_of others.now ≤ 12 }
+    ensures value { IfOk result (λ p. value_of p ≡ times (value_of others.now) (vertex_factor q (basis_coordinate d j) weight)) }
+    ensures degree { IfOk result (λ p. degree_of p ≤ degree_of others.now + weight) }
+{
+    let b = coordinate(alloc, d, j)?;
+    let f = factor(alloc, &b, q, weight)?;
+    let product = others.mul(alloc, &f)?;
+    Ok(product)
+}
+
+/// The barycentric coordinate of vertex j on the reference cell of dimension d.
+fn coordinate(alloc: Global, d: u8, j: u8) -> Result<Poly, PolyFault>
+    requires dimension { d ≤ 3 }
+    requires vertex { j ≤ 3 }
+    ensures value { IfOk result (λ p. value_of p ≡ basis_coordinate d j) }
+    ensures degree { IfOk result (λ p. degree_of p ≤ 1) }
+{
+    if j == 0 {
+        return corner(alloc, d);
+    }
+    if j > d {
+        let one = Poly::constant(alloc, Ratio::one())?;
+        return Ok(one);
+    }
+    let variable = Poly::variable(alloc, j - 1)?;
+    Ok(variable)
+}
+
+/// 1 less the coordinates below d.
+fn corner(alloc: Global, d: u8) -> Result<Poly, PolyFault>
+    requires { d ≤ 3 }
+    ensures value { IfOk result (λ p. value_of p ≡ basis_coordinate d 0) }
+    ensures degree { IfOk result (λ p. degree_of p ≤ 1) }
+{
+    let mut sum = Poly::constant(alloc, Ratio::zero())?;
+    for k in 0..d {
+        let variable = Poly::variable(alloc, k)?;
+        sum = sum.add(alloc, &variable)?;
+    }
+    let negated = sum.scale(alloc, Ratio::one().neg())?;
+    let one = Poly::constant(alloc, Ratio::one())?;
+    let corner = one.add(alloc, &negated)?;
+    Ok(corner)
+}
+
+/// `(1/a!)` times the factors `q*b - m`, m below a, with b the coordinate.
+fn factor(alloc: Global, coordinate: &Poly, q: u8, a: u8) -> Result<Poly, PolyFault>
+    requires few { a ≤ 3 }
+    requires degree { degree_of coordinate.now ≤ 1 }
+    ensures value { IfOk result (λ p. value_of p ≡ vertex_factor q (value_of coordinate.now) a) }
+    ensures degree { IfOk result (λ p. degree_of p ≤ a) }
+{
+    let scaled = coordinate.scale(alloc, whole(q as u32))?;
+    let mut product = Poly::constant(alloc, Ratio::one())?;
+    for m in 0..a {
+        let root = whole(m as u32).neg();
+        let shift = Poly::constant(alloc, root)?;
+        let next = scaled.add(alloc, &shift)?;
+        product = product.mul(alloc, &next)?;
+    }
+    let function = product.scale(alloc, quotient(1, factorial(a)))?;
+    Ok(function)
+}
+
+fn factorial(a: u8) -> u32
+    requires { a ≤ 3 }
+    ensures value { result ≡ factorial a }
+    ensures positive { 0 < result }
+{
+    match a {
+        0 | 1 => 1,
+        2 => 2,
+        _ => 6,
+    }
+}
