@@ -1,10 +1,10 @@
--- Five words
+-- Two and five words
 use Rattle.std.proofs.Common.{◌≡◌, ℕ, List, [], ◌∷◌, Bool, true, length, get_or, map, refl, sym, ◌∙◌, ap, arith, codes}
 use Rattle.std.specs.Prelude.{string_bytes, String}
 use Rattle.std.specs.Global.{Global}
 use Rattle.std.specs.Str.{bytes_eq}
 use Rattle.std.proofs.lemmas.Slice.Eq.{bytes_eq-Decides}
-use Rattle.ffc.specs.Words.{texts, assemble_words}
+use Rattle.ffc.specs.Words.{texts, compile_words, assemble_words}
 
 five : {X : Type 0} (xs : List X) (a b c d e : X) → length xs ≡ 5 → a ≡ get_or xs 0 a → b ≡ get_or xs 1 b → c ≡ get_or xs 2 c → d ≡ get_or xs 3 d → e ≡ get_or xs 4 e
     → xs ≡ a ∷ b ∷ c ∷ d ∷ e ∷ []
@@ -26,3 +26,14 @@ pub five_words : (words : List (String Global)) (verb form name mesh last : Stri
     → texts words ≡ assemble_words f m
 five_words words verb form name mesh last f m n p q r s t a b c d e =
     ap texts (five words verb form name mesh last n p q r s t) ∙ rw (a, ← b, c, ← d, e) refl
+
+two : {X : Type 0} (xs : List X) (a b : X) → length xs ≡ 2 → a ≡ get_or xs 0 a → b ≡ get_or xs 1 b → xs ≡ a ∷ b ∷ []
+two [] a b n p q = absurd (omega (arith, n))
+two (_ ∷ []) a b n p q = absurd (omega (arith, n))
+two (v ∷ w ∷ []) a b n p q = sym (rw (p, q) refl)
+two (_ ∷ _ ∷ _ ∷ _) a b n p q = absurd (omega (arith, n))
+
+pub two_words : (words : List (String Global)) (verb form : String Global) (f : List ℕ) → length words ≡ 2
+    → verb ≡ get_or words 0 verb → form ≡ get_or words 1 form → string_bytes verb ≡ codes "compile" → f ≡ string_bytes form
+    → texts words ≡ compile_words f
+two_words words verb form f n p q a b = ap texts (two words verb form n p q) ∙ rw (a, ← b) refl

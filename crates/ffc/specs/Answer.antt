@@ -22,7 +22,10 @@ use Rattle.ffc.specs.declared.outcome.FormKind.{FormKind}
 use Rattle.ffc.specs.declared.outcome.FormKind.TheVariants as form
 use Rattle.ffc.specs.declared.outcome.Spot.{Spot}
 use Rattle.ffc.specs.declared.outcome.Spot.TheVariants as spot
-use Rattle.ffc.specs.Words.{file_name}
+use Rattle.ffc.specs.Words.{file_name, compile_words, assemble_words}
+use Rattle.c_unit.specs.declared.unit.CUnit.{CUnit}
+use Rattle.c_text.specs.Layout.{canonical}
+use Rattle.ffc.specs.Unit.{IsMassUnit}
 use Rattle.ffc.specs.declared.outcome.Outcome.{Outcome}
 use Rattle.ffc.specs.declared.outcome.Outcome.TheVariants.{Done, Usage, Form, Mesh, Passed, ReadFault, WriteFault, Memory}
 
@@ -151,3 +154,35 @@ abbrev pub IsAnswer : Option (List Held) → List ℕ → List ℕ → List ℕ 
 IsAnswer content form mesh text =
     (m : MeshData Fraction) × (entries : List Entry) × Accepted content form mesh m × AllByRecursion (IsFine m one_fraction) m.cells × AreTriples m one_fraction entries
     × (text ≡ matrix_text (codes "a") (row_count m) (row_count m) entries)
+
+-- the form can be compiled, and the text is the canonical one of its unit
+abbrev pub IsUnitText : Option (List Held) → List ℕ → List ℕ → Type 0
+IsUnitText content form text = IsText content form first_form × ((u : CUnit) × IsMassUnit one_fraction u × (text ≡ canonical u))
+
+-- when each outcome comes where the form alone is named
+abbrev pub CompileCause : Option (List Held) → List ℕ → Outcome → Type 0
+CompileCause content form (Form r) = (text : List ℕ) × IsText content form text × FormCause r.kind r.line text
+CompileCause content form (Mesh r) = ⊥
+CompileCause content form (Passed s) = ⊥
+CompileCause content form Done = Unit {0}
+CompileCause content form Usage = Unit {0}
+CompileCause content form (ReadFault k) = k ≡ 1
+CompileCause content form WriteFault = Unit {0}
+CompileCause content form Memory = Unit {0}
+
+-- the answer to these words
+pub record AnswersWords (content : Option (List Held)) (words : List (List ℕ)) (text : List ℕ) : Type 0 where
+  pub compile : (form : List ℕ) → words ≡ compile_words form → IsUnitText content form text
+  pub assemble : (form mesh : List ℕ) → words ≡ assemble_words form mesh → IsAnswer content form mesh text
+
+-- the cause of the outcome of these words
+pub record HasCause (content : Option (List Held)) (words : List (List ℕ)) (o : Outcome) : Type 0 where
+  pub compile : (form : List ℕ) → words ≡ compile_words form → CompileCause content form o
+  pub assemble : (form mesh : List ℕ) → words ≡ assemble_words form mesh → Cause content form mesh o
+
+-- an outcome that no answer can have
+abbrev pub IsRefusal : Outcome → Type 0
+IsRefusal Done = ⊥
+IsRefusal Usage = ⊥
+IsRefusal WriteFault = ⊥
+IsRefusal _ = Unit {0}

@@ -8,12 +8,15 @@ ghost use Rattle.mesh_in.specs.MeshData.{IsMesh, fractions};
 ghost use Rattle.assembly.specs.Kept.{seen};
 ghost use Rattle.form_values.specs.FormValues.{AreTriples};
 ghost use Rattle.form_values.specs.Shares.{IsFine, Refuses};
+ghost use Rattle.ffc.specs.Unit.{IsMassUnit};
 
 use assembly::{RunRefusal, Triple, assemble_mass};
+use c_unit::CUnit;
 use kernel::plan_mass;
 use mesh_in::Mesh;
 use ratio::Ratio;
-use std::alloc::Global;
+use sqlite_items::Items;
+use std::alloc::{AllocError, Global};
 
 // The name of the function of the form `a`.
 const FUNCTION_NAME: &[u8] = b"ffc_a";
@@ -29,4 +32,14 @@ pub fn mass_matrix(alloc: Global, c: Ratio, mesh: &Mesh) -> Result<Vec<Triple>, 
 {
     let function = plan_mass(alloc, FUNCTION_NAME, c)?;
     assemble_mass(alloc, &function, mesh)
+}
+
+/// The unit of the form `c*u*v*dx`: its function alone.
+pub fn mass_unit(alloc: Global, c: Ratio) -> Result<CUnit, AllocError>
+    requires { IsSmallFactor (fraction_of c) }
+    ensures { IfOk result (IsMassUnit (fraction_of c)) }
+{
+    let mut funs = Items::new(alloc);
+    funs.push(plan_mass(alloc, FUNCTION_NAME, c)?)?;
+    Ok(CUnit { funs })
 }

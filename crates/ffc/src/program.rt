@@ -4,19 +4,21 @@ ghost use Rattle.ends.specs.Count.{Rises};
 ghost use Rattle.ends.specs.Told.{appended, TakesPrefix};
 ghost use Rattle.mesh_in.specs.MeshData.{IsMesh, fractions};
 ghost use Rattle.ffc.specs.FormFile.{first_form};
-ghost use Rattle.ffc.specs.Words.{HaveNoShape, texts, assemble_words};
+ghost use Rattle.ffc.specs.Words.{HaveNoShape, texts};
+ghost use Rattle.ffc.specs.Command.{words_of};
 ghost use Rattle.ffc.specs.Lines.{Says};
-ghost use Rattle.ffc.specs.Answer.{Wrote, ReadFaultCounts, FormRefused, MeshRefused, AssembleRefused, IsText, IsIntervals, FormFits, MeshFits, Cause, IsAnswer};
+ghost use Rattle.ffc.specs.Answer.{Wrote, ReadFaultCounts, FormRefused, MeshRefused, AssembleRefused, IsText, IsIntervals, FormFits, MeshFits, Cause, IsAnswer, IsUnitText, AnswersWords, HasCause, IsRefusal};
 ghost use Rattle.spaces.specs.declared.cell.Cell.TheVariants.{Interval};
 
 use crate::command::{Command, read_command};
 use crate::form_file::parting_line;
 use crate::lines::put_outcome;
 use crate::loading::{FORM_LIMIT, MESH_LIMIT, load};
-use crate::matrix::mass_matrix;
+use crate::matrix::{mass_matrix, mass_unit};
 use crate::outcome::{FormKind, FormRefusal, Outcome, Spot};
 use crate::output::push_matrix;
 use assembly::Rows;
+use c_text::print_unit;
 use ends::files::Files;
 use ends::sink::Sink;
 use mesh_in::{Mesh, MeshKind, MeshRefusal, read_mesh};
@@ -110,20 +112,50 @@ fn assemble<F: Files>(
     Ok(text)
 }
 
+// The C text of the unit of the form.
+fn compile<F: Files>(alloc: Global, files: &mut F, form: &str) -> Result<Vec<u8>, Outcome>
+    ensures ok { IfOk result (λ text. IsUnitText (F.content files.old) form.now text.items) }
+    ensures cause { IfErr result (FormFits (F.content files.old) form.now) }
+    ensures err { IfErr result (FormRefused form.now (F.faults files.old) (F.faults files.new) (F.last_failed files.new)) }
+{
+    load_form(alloc, files, form)?;
+    let unit = mass_unit(alloc, Ratio::one())?;
+    let mut text = Vec::new(alloc);
+    print_unit(&unit, &mut text)?;
+    Ok(text)
+}
+
+// The text that the words ask for.
+fn answer_text<F: Files>(
+    alloc: Global,
+    files: &mut F,
+    command: Command<'_>,
+) -> Result<Vec<u8>, Outcome>
+    ensures ok { IfOk result (λ text. AnswersWords (F.content files.old) (words_of command.entry) text.items) }
+    ensures cause { IfErr result (HasCause (F.content files.old) (words_of command.entry)) }
+    ensures read_fault { IfErr result (λ o. ReadFaultCounts o (words_of command.entry)
+        (F.faults files.old) (F.faults files.new) (F.last_failed files.new)) }
+    ensures refused { IfErr result IsRefusal }
+{
+    match command {
+        Command::Compile { form } => compile(alloc, files, form),
+        Command::Assemble { form, mesh } => assemble(alloc, files, form, mesh),
+    }
+}
+
 // Does what the words ask, and puts the answer.
 fn answer<F: Files, O: Sink>(alloc: Global, words: &[String], files: &mut F, out: &mut O) -> Outcome
     ensures usage { (result ≡ Outcome.Usage) ↔ HaveNoShape (texts words.now) }
     ensures read_fault { ReadFaultCounts result (texts words.now)
         (F.faults files.old) (F.faults files.new) (F.last_failed files.new) }
     ensures write_fault { result ≡ Outcome.WriteFault → Rises (O.faults out.old) (O.faults out.new) }
-    ensures cause { (form mesh : List ℕ) → texts words.now ≡ assemble_words form mesh → Cause (F.content files.old) form mesh result }
-    ensures wrote { Wrote result (O.written out.old) (O.written out.new)
-        (λ text. (form mesh : List ℕ) → texts words.now ≡ assemble_words form mesh → IsAnswer (F.content files.old) form mesh text) }
+    ensures cause { HasCause (F.content files.old) (texts words.now) result }
+    ensures wrote { Wrote result (O.written out.old) (O.written out.new) (AnswersWords (F.content files.old) (texts words.now)) }
 {
-    let Some(Command::Assemble { form, mesh }) = read_command(words) else {
+    let Some(command) = read_command(words) else {
         return Outcome::Usage;
     };
-    let text = match assemble(alloc, files, form, mesh) {
+    let text = match answer_text(alloc, files, command) {
         Ok(text) => text,
         Err(outcome) => return outcome,
     };
@@ -146,9 +178,8 @@ pub fn program<F: Files, O: Sink, E: Sink>(
     ensures read_fault { ReadFaultCounts result (texts words.now)
         (F.faults files.old) (F.faults files.new) (F.last_failed files.new) }
     ensures write_fault { result ≡ Outcome.WriteFault → Rises (O.faults out.old) (O.faults out.new) }
-    ensures cause { (form mesh : List ℕ) → texts words.now ≡ assemble_words form mesh → Cause (F.content files.old) form mesh result }
-    ensures wrote { Wrote result (O.written out.old) (O.written out.new)
-        (λ text. (form mesh : List ℕ) → texts words.now ≡ assemble_words form mesh → IsAnswer (F.content files.old) form mesh text) }
+    ensures cause { HasCause (F.content files.old) (texts words.now) result }
+    ensures wrote { Wrote result (O.written out.old) (O.written out.new) (AnswersWords (F.content files.old) (texts words.now)) }
     ensures line { Says result (E.written err.old) (E.written err.new) (E.faults err.old) (E.faults err.new) }
 {
     let outcome = answer(alloc, words, files, out);

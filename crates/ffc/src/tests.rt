@@ -1,8 +1,11 @@
 //! Runs of the program over files and sinks in memory.
 use crate::outcome::Outcome;
 use crate::program::program;
+use c_run::{Machine, Ret};
+use c_text::read_unit;
 use ends::mem_files::{MemFile, MemFiles};
 use ends::mem_sink::MemSink;
+use ratio::Ratio;
 use std::alloc::{AllocError, Global};
 use std::test::Fail;
 
@@ -13,6 +16,26 @@ a = u*v*dx
 ";
 
 const TWO: &str = "mesh 1 interval 2 1\n0\n2\n0 1\n";
+
+const UNIT: &str = "#include \"fr.h\"
+enum { ffc_a_X = 2, ffc_a_W = 0, ffc_a_T = 5, ffc_a_A = 4 };
+int ffc_a(const fr *X, const fr *W, fr *A)
+{
+  fr T[5];
+  fr_clear(T, 5);
+  fr_clear(A, 4);
+  if (fr_sub(&T[0], &X[1], &X[0])) return 1;
+  if (fr_inv(&T[1], &T[0])) return 2;
+  fr_abs(&T[2], &T[0]);
+  fr_set(&T[3], 0, 0u, 1u, 0u, 3u);
+  fr_set(&T[4], 0, 0u, 1u, 0u, 6u);
+  if (fr_mul(&A[0], &T[2], &T[3])) return 1;
+  if (fr_mul(&A[1], &T[2], &T[4])) return 1;
+  if (fr_mul(&A[2], &T[2], &T[4])) return 1;
+  if (fr_mul(&A[3], &T[2], &T[3])) return 1;
+  return 0;
+}
+";
 
 const MATRIX: &str = "form a rank 2 rows 2 columns 2\n0 0 2/3\n0 1 1/3\n1 0 1/3\n1 1 2/3\n";
 
@@ -69,6 +92,17 @@ fn ends_as_the_worked_rows_say(rt: HostRuntime) -> Result<(), Fail> {
     let words = "assemble form a mesh -";
     let table = [
         (words, MASS, TWO, 0, MATRIX, ""),
+        ("compile form", MASS, TWO, 0, UNIT, ""),
+        ("compile none", MASS, TWO, 8, "", "read fault 1\n"),
+        (
+            "compile mesh",
+            MASS,
+            TWO,
+            3,
+            "",
+            "form line 1 refusal 16 NotYet\n",
+        ),
+        ("compile", MASS, TWO, 2, "", "usage\n"),
         ("", MASS, TWO, 2, "", "usage\n"),
         ("assemble form a", MASS, TWO, 2, "", "usage\n"),
         ("assemble form b mesh -", MASS, TWO, 2, "", "usage\n"),
@@ -143,5 +177,48 @@ fn a_fault_of_writing_leaves_a_prefix(rt: HostRuntime) -> Result<(), Fail> {
     assert_eq!(rt; left.out.bytes(), b"form a ran".as_slice());
     assert_eq!(rt; left.err.bytes(), b"write fault\n".as_slice());
     assert_eq!(rt; left.status, 9);
+    Ok(())
+}
+
+// What the function of a unit's text gives on an interval: its local tensor, or how the run ended.
+fn local_tensor(alloc: Global, text: &str, ends: [i128; 2]) -> Result<Vec<u8>, Fail> {
+    let read = match read_unit(alloc, text.as_bytes()) {
+        Ok(read) => read,
+        Err(_) => return Ok(Vec::from_slice(alloc, b"refused")?),
+    };
+    let Some(function) = read.unit.funs.get(0) else {
+        return Ok(Vec::new(alloc));
+    };
+    let (Some(first), Some(second)) = (Ratio::new(ends[0], 1), Ratio::new(ends[1], 1)) else {
+        return Ok(Vec::new(alloc));
+    };
+    let mut machine = Machine::new(alloc, function)?;
+    let mut tensor = vec![in alloc; Ratio::zero(); function.a as usize]?;
+    let mut left = Vec::new(alloc);
+    match machine.run(&[first, second], &[], tensor.as_mut_slice()) {
+        Ret::Good => {
+            for value in &tensor {
+                value.write(&mut left)?;
+                left.push(b' ')?;
+            }
+        }
+        Ret::Zero { .. } => left.extend_from_slice(b"zero")?,
+        Ret::Passed { .. } => left.extend_from_slice(b"passed")?,
+    }
+    Ok(left)
+}
+
+#[test]
+fn the_printed_kernel_is_read_back_and_runs(rt: HostRuntime) -> Result<(), Fail> {
+    let table = [
+        ([0, 2], "2/3 1/3 1/3 2/3 "),
+        ([2, 0], "2/3 1/3 1/3 2/3 "),
+        ([1, 1], "zero"),
+        ([i128::MIN + 1, i128::MAX], "passed"),
+    ];
+    for (ends, tensor) in table {
+        let left = local_tensor(rt.alloc(), UNIT, ends)?;
+        assert_eq!(rt; left.as_slice(), tensor.as_bytes());
+    }
     Ok(())
 }

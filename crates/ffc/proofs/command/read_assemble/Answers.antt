@@ -1,6 +1,6 @@
 use Rattle.std.proofs.Common.{arith, codes}
 use Rattle.ffc.proofs.WordsLaws.{same_text, five_words}
-use Rattle.ffc.proofs.command.read_command.Goals as goal
+use Rattle.ffc.proofs.command.read_assemble.Goals as goal
 
 pub returns-in-len5-clause-shape : goal.returns-in-len5-clause-shape
 returns-in-len5-clause-shape c =

@@ -1,0 +1,20 @@
+-- The unit that is printed for the form `c*u*v*dx`
+use Rattle.std.specs.Prelude.{◌≡◌, ℕ, ◌≤◌, List, [], ◌∷◌, codes}
+use Rattle.algebra.specs.Fraction.{Fraction}
+use Rattle.c_unit.specs.declared.unit.CFun.{CFun}
+use Rattle.c_unit.specs.declared.unit.CUnit.{CUnit}
+use Rattle.c_unit.specs.Meaning.{ran, counted_list}
+use Rattle.kernel.specs.MassShare.{outcome, mass_outcome}
+
+-- the function of the form `a`: its run on a cell gives the shares of the cell, or returns 1 or 2 exactly where they do not fit or the cell is flat
+pub record IsMassFunction (c : Fraction) (f : CFun) : Type 0 where
+  pub name : f.name ≡ codes "ffc_a"
+  pub x : f.x ≡ 2
+  pub w : f.w ≡ 0
+  pub a : f.a ≡ 4
+  pub share : (x₀ x₁ : Fraction) → outcome (ran f (x₀ ∷ x₁ ∷ []) []) ≡ mass_outcome c x₀ x₁
+  pub bound : counted_list f.body ≤ 224
+
+-- this function alone
+abbrev pub IsMassUnit : Fraction → CUnit → Type 0
+IsMassUnit c u = (f : CFun) × (u.funs ≡ f ∷ []) × IsMassFunction c f
