@@ -3,7 +3,7 @@
 ghost use Rattle.std.specs.Prelude.{◌≡◌, ◌<◌, ◌≤◌, OnOk, IfOk, option_map};
 ghost use Rattle.c_text.specs.Stream.{Gives};
 ghost use Rattle.c_text.specs.Parser.{stream, left};
-ghost use Rattle.c_text.specs.Units.{without_suffix as front_of, is_among as is_name_of_one, name_at, size_at, named_size_at, repeated_at, signature_at, clear_at, slots_at, end_at, sizes_at, is_more as is_more_ahead, is_lex};
+ghost use Rattle.c_text.specs.Units.{without_suffix as front_of, is_among as is_name_of_one, name_at, size_at, named_size_at, repeated_at, signature_at, clear_at, slots_at, end_at, sizes_at, function_at, functions_at, is_more as is_more_ahead, is_lex, reading, Answers, IsRead};
 
 use c_unit::{CFun, CUnit};
 use sqlite_items::Items;
@@ -185,7 +185,9 @@ impl<'a> Parser<'a> {
         Ok((name, Scope { x, w, t, a, turns: [1; 4], depth: 0 }))
     }
 
+    #[tactic(auto, unfolding(crate::specs::Units::function_at))]
     fn function(&mut self, alloc: Global, funs: &[CFun]) -> Result<ReadFun, ReadFault>
+        ensures read { Gives (λ x. x) result (stream self.new) (function_at funs.now (stream self.old)) }
         ensures shorter { OnOk result (left self.new < left self.old) }
     {
         let line = self.expect(b"enum")?;
@@ -193,7 +195,7 @@ impl<'a> Parser<'a> {
         self.signature(name)?;
         self.slots(scope.t, scope.a)?;
         let tables = self.tables(alloc)?;
-        let Body { statements, lines, count } = self.body(alloc, &scope, tables.as_slice())?;
+        let Body { statements, lines, count } = self.body(alloc, &scope, tables.as_slice(), 4)?;
         self.end_of_function(count)?;
         let name = Items::from_slice(alloc, name)?;
         let fun = CFun { name, x: scope.x, w: scope.w, t: scope.t, a: scope.a, tables, body: statements };
@@ -201,7 +203,9 @@ impl<'a> Parser<'a> {
     }
 
     // All functions up to the end of the text.
+    #[tactic(auto, unfolding(crate::specs::Units::functions_at))]
     fn functions(&mut self, alloc: Global) -> Result<ReadUnit, ReadFault>
+        ensures read { Gives (λ x. x) result (stream self.new) (functions_at (stream self.old)) }
     {
         let mut funs = Items::new(alloc);
         let mut enums = Items::new(alloc);
@@ -235,7 +239,9 @@ impl<'a> Parser<'a> {
     }
 }
 
+#[tactic(auto, unfolding(crate::specs::Units::reading))]
 fn read_all(alloc: Global, text: &[u8]) -> Result<ReadUnit, ReadFault>
+    ensures { IsRead result (reading text.now) }
 {
     if text.len() > LONGEST {
         return Err(refused(KernelKind::TooLong, 0));
@@ -251,6 +257,7 @@ fn read_all(alloc: Global, text: &[u8]) -> Result<ReadUnit, ReadFault>
 
 /// The unit of a text, or the first place where it is refused.
 pub fn read_unit(alloc: Global, text: &[u8]) -> Result<ReadUnit, KernelRefusal>
+    ensures exact { Answers result (reading text.now) }
 {
     match read_all(alloc, text) {
         Ok(unit) => Ok(unit),
