@@ -172,7 +172,7 @@ Refuses kinds.TooLong e read = read ≡ Err e
 Refuses kinds.Syntax e read = read ≡ Err e
 Refuses kinds.Slot e read = read ≡ Err e
 Refuses kinds.Bound e read = read ≡ Err e
-Refuses kinds.Sizes e read = ⊥
+Refuses kinds.Sizes e read = read ≡ Err e
 
 -- The answer is what reading gives, unless memory ran out.
 abbrev pub Answers : Result ReadUnit KernelRefusal → Result ReadUnit KernelRefusal → Type 0

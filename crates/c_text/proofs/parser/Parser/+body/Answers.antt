@@ -1,9 +1,9 @@
-use Rattle.std.proofs.Common.{◌≡◌, ◌≤◌, ◌<◌, ◌∙◌, refl, sym, ap, ap₂, nat_lt, Ok, List, [], ◌∷◌, ◌++◌, length, arith}
+use Rattle.std.proofs.Common.{◌≡◌, ◌≤◌, ◌<◌, ◌∙◌, refl, sym, ap, ap₂, nat_lt, Ok, List, [], ◌∷◌, ◌++◌, ◌+◌, length, arith}
 use Rattle.c_text.specs.declared.statement.Body.{Body}
 use Rattle.c_text.specs.Stream.{◌>>=◌, repeat}
-use Rattle.c_text.specs.Statements.{is_statement, add_line, with_line, line_at, body_at}
+use Rattle.c_text.specs.Statements.{is_statement, add_line, with_line, line_at, body_at, capped}
 use Rattle.c_text.specs.Parser.{stream, left}
-use Rattle.c_text.proofs.ReadLaws.{gives_err, fails_through, fails_as}
+use Rattle.c_text.proofs.ReadLaws.{gives_as, gives_err, fails_through, fails_as}
 use Rattle.c_text.proofs.Repeats.{one_more, none_more, all_read}
 use Rattle.c_text.proofs.Bodies.{body_from, line_loop_at, line_call_at, some_statement}
 use Rattle.c_text.proofs.parser.Parser.+body.Goals as goal
@@ -40,11 +40,17 @@ body-all-preserved t c =
       (ap (λ r. r >>= λ x. Ok (with_line a x.0, x.1)) c.in_ok-statement.ensures.read) in
     record {
       shorter = omega (arith, c.all.invariant.shorter, c.in_ok-statement.ensures.shorter);
-      read = ?;
+      read = (r.0, r.1,
+        r.2
+        ∙ ap (λ ss. repeat more one r.0 (record { statements = ss; lines = c.all.lines ++ c.in_ok-statement.more; count = capped (c.all.count + c.in_ok-statement.counted) }) (stream c.line.new.self)) (sym c.in_ok-push.ensures.ok)
+        ∙ ap (λ ls. repeat more one r.0 (record { statements = c.push.new.self; lines = ls; count = capped (c.all.count + c.in_ok-statement.counted) }) (stream c.line.new.self)) (sym c.in_ok-append.ensures)
+        ∙ ap (λ n. repeat more one r.0 (record { statements = c.push.new.self; lines = c.append.new.self; count = n }) (stream c.line.new.self)) (sym c.sum_capped.ensures));
     }
 
 pub line-returns-then-is_loop-clause-read : goal.line-returns-then-is_loop-clause-read
-line-returns-then-is_loop-clause-read t c = let e = line_loop_at c.args.room c.args.scope.now c.args.tables.now (stream c.args.self.now) (sym c.is_loop.ensures ∙ c.if-is_loop.true) in ?
+line-returns-then-is_loop-clause-read t c = let e = line_loop_at c.args.room c.args.scope.now c.args.tables.now (stream c.args.self.now) (sym c.is_loop.ensures ∙ c.if-is_loop.true) in
+    gives_as (λ x. x) c.counted_loop.result _ _ _ e c.counted_loop.ensures.read
 
 pub line-returns-clause-read : goal.line-returns-clause-read
-line-returns-clause-read t c = let e = line_call_at c.args.room c.args.scope.now c.args.tables.now (stream c.args.self.now) (sym c.is_loop.ensures ∙ c.if-is_loop.false) in ?
+line-returns-clause-read t c = let e = line_call_at c.args.room c.args.scope.now c.args.tables.now (stream c.args.self.now) (sym c.is_loop.ensures ∙ c.if-is_loop.false) in
+    gives_as (λ x. x) c.call_line.result _ _ _ e c.call_line.ensures.read
