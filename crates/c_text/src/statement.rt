@@ -5,15 +5,14 @@ ghost use Rattle.c_text.specs.Stream.{Gives, is_ahead};
 ghost use Rattle.c_text.specs.Parser.{stream, left};
 ghost use Rattle.c_text.specs.Statements.{set_at, pair_at, copy_at, abs_at, inverse_at, triple_at, add_at, sub_at, mul_at, step_call_at, test_at, table_used_at, load_at, call_at, own_counter_at, turns_at, header_at, line_ahead as line_of_next, call_line_at, is_call as is_call_ahead, is_statement as is_statement_ahead};
 
-use c_unit::{Array, CStmt, Place};
-use ratio::Ratio;
-use sqlite_items::Items;
-use std::alloc::{AllocError, Global};
-
 use crate::number::{counter_number, table_number};
 use crate::parser::{Parser, syntax};
 use crate::place::{Scope, refused};
 use crate::refusal::{KernelKind, ReadFault};
+use c_unit::{Array, CStmt, Place};
+use ratio::Ratio;
+use sqlite_items::Items;
+use std::alloc::{AllocError, Global};
 
 // One more than a function may run.
 const CAP: u64 = 0x400_0001;
@@ -314,7 +313,12 @@ impl<'a> Parser<'a> {
     }
 
     #[tactic(auto, unfolding(crate::specs::Statements::call_line_at))]
-    fn call_line(&mut self, alloc: Global, scope: &Scope, tables: &[Items<Ratio>]) -> Result<Line, ReadFault>
+    fn call_line(
+        &mut self,
+        alloc: Global,
+        scope: &Scope,
+        tables: &[Items<Ratio>],
+    ) -> Result<Line, ReadFault>
         requires { scope.now.depth ≤ 4 }
         ensures read { Gives (λ x. x) result (stream self.new) (call_line_at (line_of_next (stream self.old)) scope.now tables.now (stream self.old)) }
         ensures shorter { OnOk result (left self.new < left self.old) }
@@ -331,7 +335,12 @@ impl<'a> Parser<'a> {
 
     // A statement, with the lines and the count of a loop's own statements.
     #[cycle(body)]
-    fn line(&mut self, alloc: Global, scope: &Scope, tables: &[Items<Ratio>]) -> Result<Line, ReadFault>
+    fn line(
+        &mut self,
+        alloc: Global,
+        scope: &Scope,
+        tables: &[Items<Ratio>],
+    ) -> Result<Line, ReadFault>
         requires { scope.now.depth ≤ 4 }
         ensures shorter { OnOk result (left self.new < left self.old) }
     {
@@ -342,7 +351,12 @@ impl<'a> Parser<'a> {
     }
 
     #[cycle(body)]
-    fn counted_loop(&mut self, alloc: Global, scope: &Scope, tables: &[Items<Ratio>]) -> Result<Line, ReadFault>
+    fn counted_loop(
+        &mut self,
+        alloc: Global,
+        scope: &Scope,
+        tables: &[Items<Ratio>],
+    ) -> Result<Line, ReadFault>
         requires { scope.now.depth < 4 }
         ensures shorter { OnOk result (left self.new < left self.old) }
     {
@@ -355,10 +369,17 @@ impl<'a> Parser<'a> {
         let body = self.body(alloc, &inner, tables)?;
         self.expect(b"}")?;
         let mut lines = one_line(alloc, line)?;
-        let Body { statements, lines: more, count } = body;
+        let Body {
+            statements,
+            lines: more,
+            count,
+        } = body;
         lines.append(more)?;
         Ok(Line {
-            statement: CStmt::For { turns, body: statements },
+            statement: CStmt::For {
+                turns,
+                body: statements,
+            },
             lines,
             count: count.saturating_mul(turns as u64).min(CAP),
         })
@@ -366,7 +387,12 @@ impl<'a> Parser<'a> {
 
     /// Statements, as far as they go.
     #[cycle(body)]
-    pub fn body(&mut self, alloc: Global, scope: &Scope, tables: &[Items<Ratio>]) -> Result<Body, ReadFault>
+    pub fn body(
+        &mut self,
+        alloc: Global,
+        scope: &Scope,
+        tables: &[Items<Ratio>],
+    ) -> Result<Body, ReadFault>
         requires { scope.now.depth ≤ 4 }
         ensures shorter { OnOk result (left self.new ≤ left self.old) }
     {
@@ -375,9 +401,17 @@ impl<'a> Parser<'a> {
         let mut count: u64 = 0;
         'all: loop {
             if !self.is_statement(scope.depth) {
-                return Ok(Body { statements, lines, count });
+                return Ok(Body {
+                    statements,
+                    lines,
+                    count,
+                });
             }
-            let Line { statement, lines: more, count: counted } = self.line(alloc, scope, tables)?;
+            let Line {
+                statement,
+                lines: more,
+                count: counted,
+            } = self.line(alloc, scope, tables)?;
             statements.push(statement)?;
             lines.append(more)?;
             count = count.saturating_add(counted).min(CAP);
