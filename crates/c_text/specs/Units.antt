@@ -114,11 +114,14 @@ function_at funs s = do
   k ← tables_at o.1
   b ← body_at 4 z.0.1 k.0 k.1
   r ← end_at b.0.count b.1
-  Ok (record {
-    fun = record { name = z.0.0; x = z.0.1.x; w = z.0.1.w; t = z.0.1.t; a = z.0.1.a; tables = k.0; body = b.0.statements };
-    line = e.0;
-    lines = b.0.lines;
-  }, r.1)
+  Ok (
+    record {
+      fun = record { name = z.0.0; x = z.0.1.x; w = z.0.1.w; t = z.0.1.t; a = z.0.1.a; tables = k.0; body = b.0.statements };
+      line = e.0;
+      lines = b.0.lines;
+    },
+    r.1,
+  )
 
 abbrev pub is_more_by : List Token → Bool
 is_more_by [] = false

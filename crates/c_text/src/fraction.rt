@@ -9,14 +9,13 @@ ghost use Rattle.c_text.specs.Parser.{stream, left};
 ghost use Rattle.c_text.specs.Lowest.{is_out, fraction_from};
 ghost use Rattle.c_text.specs.Fractions.{sign_at, half_at, part_at, fraction_at, item_at, further_item_at, further_items_at, items_at, table_name_at, table_at, tables_at};
 
-use ratio::Ratio;
-use sqlite_items::Items;
-use std::alloc::Global;
-
 use crate::number::{half, table_number};
 use crate::parser::{Parser, syntax};
 use crate::place::refused;
 use crate::refusal::{KernelKind, ReadFault};
+use ratio::Ratio;
+use sqlite_items::Items;
+use std::alloc::Global;
 
 const LIMIT: u128 = 0x8000_0000_0000_0000_0000_0000_0000_0000;
 
@@ -57,7 +56,11 @@ fn fraction_in_range(negative: bool, top: u128, bottom: u128) -> Option<Ratio>
     let Some(value) = Ratio::new(num, den) else {
         return None;
     };
-    if has_parts(value, num, den) { Some(value) } else { None }
+    if has_parts(value, num, den) {
+        Some(value)
+    } else {
+        None
+    }
 }
 
 // The fraction of these parts, where they are below 2^127, in lowest terms and no negative zero.

@@ -17,5 +17,5 @@ mod tests;
 
 pub use c_unit::{Array, CFun, CStmt, CUnit, Op, Place, Slot};
 pub use print::print_unit;
-pub use refusal::{KernelKind, KernelRefusal};
 pub use read::{ReadUnit, read_unit};
+pub use refusal::{KernelKind, KernelRefusal};

@@ -82,7 +82,11 @@ pub fn table_number(text: &[u8]) -> Option<u32>
     if text.is_empty() {
         return None;
     }
-    if text[0] == b'K' { small(&text[1..]) } else { None }
+    if text[0] == b'K' {
+        small(&text[1..])
+    } else {
+        None
+    }
 }
 
 /// The number of a counter: `i0`, `i1` and so on.
@@ -93,5 +97,9 @@ pub fn counter_number(text: &[u8]) -> Option<u32>
     if text.is_empty() {
         return None;
     }
-    if text[0] == b'i' { small(&text[1..]) } else { None }
+    if text[0] == b'i' {
+        small(&text[1..])
+    } else {
+        None
+    }
 }

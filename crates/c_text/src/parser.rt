@@ -5,9 +5,8 @@ ghost use Rattle.slices.specs.Tokens.{rest_of, token_of};
 ghost use Rattle.c_text.specs.Stream.{stream_of as stream_of_text, stream_at, stream_behind, text_ahead as text_of_next, Gives, shift as shifted, expect as expected, expects as all_expected, last_line as line_of_last};
 ghost use Rattle.c_text.specs.Parser.{stream, left};
 
-use slices::{Table, Tok, Toks};
-
 use crate::refusal::{KernelKind, KernelRefusal, ReadFault};
+use slices::{Table, Tok, Toks};
 
 /// The tokens that are still to be read.
 #[derive(Drop)]
@@ -21,7 +20,10 @@ pub struct Parser<'a> {
 pub fn syntax(line: u32) -> ReadFault
     ensures { result ≡ ReadFault.Refused (record { kind = KernelKind.Syntax; line = line }) }
 {
-    ReadFault::Refused(KernelRefusal { kind: KernelKind::Syntax, line })
+    ReadFault::Refused(KernelRefusal {
+        kind: KernelKind::Syntax,
+        line,
+    })
 }
 
 // The line of the last byte.
@@ -46,7 +48,10 @@ impl<'a> Parser<'a> {
         let mut parser = Parser {
             toks: Toks::new(text, Table::C),
             ahead: None,
-            end: KernelRefusal { kind: KernelKind::Syntax, line: last_line(text) },
+            end: KernelRefusal {
+                kind: KernelKind::Syntax,
+                line: last_line(text),
+            },
         };
         parser.advance();
         parser
@@ -61,7 +66,10 @@ impl<'a> Parser<'a> {
         match self.toks.next() {
             None => {}
             Some(Ok(token)) => self.ahead = Some(token),
-            Some(Err(place)) => self.end = KernelRefusal { kind: KernelKind::Lex, line: place.line },
+            Some(Err(place)) => self.end = KernelRefusal {
+                kind: KernelKind::Lex,
+                line: place.line,
+            },
         }
     }
 

@@ -6,12 +6,11 @@ ghost use Rattle.c_unit.specs.Rules.{greatest as greatest_of};
 ghost use Rattle.c_text.specs.Parser.{stream, left};
 ghost use Rattle.c_text.specs.Places.{number_at, counter_at, factor_at, step_at, steps_at, slot_at, array_at, slot_of as slot_in, target_at, source_at, size_in};
 
-use c_unit::{Array, Place, Slot};
-use slices::Tok;
-
 use crate::number::{counter_number, small};
 use crate::parser::{Parser, syntax};
 use crate::refusal::{KernelKind, KernelRefusal, ReadFault};
+use c_unit::{Array, Place, Slot};
+use slices::Tok;
 
 /// The sizes of the four arrays, and the turns of the enclosing loops, the outermost first.
 #[derive(Clone, Copy)]
@@ -34,8 +33,6 @@ struct Steps {
 
 impl Scope {
     fn size(&self, array: Array) -> u32
-
-   
         ensures { result ≡ size_in self.now array }
     {
         match array {
@@ -49,8 +46,6 @@ impl Scope {
     // The greatest slot number that comes in the turns of the loops.
     #[tactic(auto, unfolding(c_unit::specs::Rules::greatest))]
     fn greatest(&self, slot: Slot) -> u128
-
-   
         ensures { result ≡ greatest_of self.now.turns slot }
     {
         slot.base as u128
@@ -134,7 +129,11 @@ impl<'a> Parser<'a> {
         let mut last = line;
         'all: loop {
             if !self.next_is(b"+") {
-                return Ok(Steps { steps, from, line: last });
+                return Ok(Steps {
+                    steps,
+                    from,
+                    line: last,
+                });
             }
             let (factor, counter, place) = self.step(from, depth)?;
             steps[counter as usize] = factor;

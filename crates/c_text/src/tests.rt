@@ -51,30 +51,135 @@ fn kernel_with(alloc: Global, number: usize, line: &[u8]) -> Result<Vec<u8>, All
 }
 
 const CASES: [(usize, &[u8], KernelKind, u32); 26] = [
-    (11, b"  if (fr_mul(&A[4], &T[0], &T[1])) return 1;", KernelKind::Slot, 11),
-    (11, b"  if (fr_mul(&A[3+1*i0], &T[0], &T[1])) return 1;", KernelKind::Syntax, 11),
-    (11, b"  if (fr_mul(&X[1], &T[0], &T[1])) return 1;", KernelKind::Syntax, 11),
-    (9, b"  fr_set(&T[1], 0, 0u, 3u, 0u, 3u);", KernelKind::Bound, 9),
-    (9, b"  fr_set(&T[1], 1, 0u, 0u, 0u, 1u);", KernelKind::Bound, 9),
-    (9, b"  fr_set(&T[1], 0, 0u, 1u, 0u, 0u);", KernelKind::Bound, 9),
-    (9, b"  fr_set(&T[1], 0, 9223372036854775808u, 0u, 0u, 1u);", KernelKind::Bound, 9),
-    (9, b"  fr_set(&T[1], 0, 0u, 18446744073709551616u, 0u, 3u);", KernelKind::Syntax, 9),
-    (9, b"  fr_set(&T[1], 0, 0u, 1, 0u, 3u);", KernelKind::Syntax, 9),
-    (9, b"  fr_set(&T[01], 0, 0u, 1u, 0u, 3u);", KernelKind::Syntax, 9),
+    (
+        11,
+        b"  if (fr_mul(&A[4], &T[0], &T[1])) return 1;",
+        KernelKind::Slot,
+        11,
+    ),
+    (
+        11,
+        b"  if (fr_mul(&A[3+1*i0], &T[0], &T[1])) return 1;",
+        KernelKind::Syntax,
+        11,
+    ),
+    (
+        11,
+        b"  if (fr_mul(&X[1], &T[0], &T[1])) return 1;",
+        KernelKind::Syntax,
+        11,
+    ),
+    (
+        9,
+        b"  fr_set(&T[1], 0, 0u, 3u, 0u, 3u);",
+        KernelKind::Bound,
+        9,
+    ),
+    (
+        9,
+        b"  fr_set(&T[1], 1, 0u, 0u, 0u, 1u);",
+        KernelKind::Bound,
+        9,
+    ),
+    (
+        9,
+        b"  fr_set(&T[1], 0, 0u, 1u, 0u, 0u);",
+        KernelKind::Bound,
+        9,
+    ),
+    (
+        9,
+        b"  fr_set(&T[1], 0, 9223372036854775808u, 0u, 0u, 1u);",
+        KernelKind::Bound,
+        9,
+    ),
+    (
+        9,
+        b"  fr_set(&T[1], 0, 0u, 18446744073709551616u, 0u, 3u);",
+        KernelKind::Syntax,
+        9,
+    ),
+    (
+        9,
+        b"  fr_set(&T[1], 0, 0u, 1, 0u, 3u);",
+        KernelKind::Syntax,
+        9,
+    ),
+    (
+        9,
+        b"  fr_set(&T[01], 0, 0u, 1u, 0u, 3u);",
+        KernelKind::Syntax,
+        9,
+    ),
     (9, b"  fr_set(&T[1], 0, 0u, 1u, @", KernelKind::Lex, 9),
     (9, b"  fr_load(&T[1], &K0[0]);", KernelKind::Syntax, 9),
-    (9, b"  for (int i0 = 0; i0 < 0; i0++) { }", KernelKind::Bound, 9),
-    (9, b"  for (int i1 = 0; i1 < 2; i1++) { }", KernelKind::Syntax, 9),
-    (9, b"  for (int i0 = 0; i0 < 3; i0++) { fr_copy(&T[0+1*i0], &X[0]); }", KernelKind::Slot, 9),
-    (9, b"  for (int i0 = 0; i0 < 3; i0++) { fr_copy(&T[0+0*i0], &X[0]); }", KernelKind::Syntax, 9),
-    (9, b"  for (int i0 = 0; i0 < 67108863; i0++) { fr_copy(&T[0], &X[0]); }", KernelKind::Bound, 13),
-    (2, b"enum { ffc_a_X = 2, ffc_a_W = 0, ffc_a_T = 0, ffc_a_A = 4 };", KernelKind::Bound, 2),
-    (2, b"enum { ffc_a_X = 2, ffc_b_W = 0, ffc_a_T = 2, ffc_a_A = 4 };", KernelKind::Syntax, 2),
-    (2, b"enum { _X = 2, _W = 0, _T = 2, _A = 4 };", KernelKind::Syntax, 2),
-    (2, b"enum { ffc_a_X = 16777217, ffc_a_W = 0, ffc_a_T = 2, ffc_a_A = 4 };", KernelKind::Bound, 2),
+    (
+        9,
+        b"  for (int i0 = 0; i0 < 0; i0++) { }",
+        KernelKind::Bound,
+        9,
+    ),
+    (
+        9,
+        b"  for (int i1 = 0; i1 < 2; i1++) { }",
+        KernelKind::Syntax,
+        9,
+    ),
+    (
+        9,
+        b"  for (int i0 = 0; i0 < 3; i0++) { fr_copy(&T[0+1*i0], &X[0]); }",
+        KernelKind::Slot,
+        9,
+    ),
+    (
+        9,
+        b"  for (int i0 = 0; i0 < 3; i0++) { fr_copy(&T[0+0*i0], &X[0]); }",
+        KernelKind::Syntax,
+        9,
+    ),
+    (
+        9,
+        b"  for (int i0 = 0; i0 < 67108863; i0++) { fr_copy(&T[0], &X[0]); }",
+        KernelKind::Bound,
+        13,
+    ),
+    (
+        2,
+        b"enum { ffc_a_X = 2, ffc_a_W = 0, ffc_a_T = 0, ffc_a_A = 4 };",
+        KernelKind::Bound,
+        2,
+    ),
+    (
+        2,
+        b"enum { ffc_a_X = 2, ffc_b_W = 0, ffc_a_T = 2, ffc_a_A = 4 };",
+        KernelKind::Syntax,
+        2,
+    ),
+    (
+        2,
+        b"enum { _X = 2, _W = 0, _T = 2, _A = 4 };",
+        KernelKind::Syntax,
+        2,
+    ),
+    (
+        2,
+        b"enum { ffc_a_X = 16777217, ffc_a_W = 0, ffc_a_T = 2, ffc_a_A = 4 };",
+        KernelKind::Bound,
+        2,
+    ),
     (6, b"  fr_clear(T, 3);", KernelKind::Bound, 6),
-    (7, b"  fr_clear(A, 4); static const fr_lit K0[2] = { { 0, 0u, 1u, 0u, 3u } };", KernelKind::Bound, 7),
-    (7, b"  fr_clear(A, 4); static const fr_lit K1[1] = { { 0, 0u, 1u, 0u, 3u } };", KernelKind::Syntax, 7),
+    (
+        7,
+        b"  fr_clear(A, 4); static const fr_lit K0[2] = { { 0, 0u, 1u, 0u, 3u } };",
+        KernelKind::Bound,
+        7,
+    ),
+    (
+        7,
+        b"  fr_clear(A, 4); static const fr_lit K1[1] = { { 0, 0u, 1u, 0u, 3u } };",
+        KernelKind::Syntax,
+        7,
+    ),
     (13, b"", KernelKind::Syntax, 13),
     (1, b"#include <fr.h>", KernelKind::Syntax, 1),
 ];
@@ -97,7 +202,13 @@ fn texts_are_printed_back(rt: HostRuntime) -> Result<(), Fail> {
     let kernel = kernel_with(rt.alloc(), 0, b"")?;
     for text in [kernel.as_slice(), LOOPS] {
         match read_unit(rt.alloc(), text) {
-            Err(refusal) => assert_eq!(rt; refusal, KernelRefusal { kind: KernelKind::Memory, line: 9999 }),
+            Err(refusal) => assert_eq!(rt;
+                refusal,
+                KernelRefusal {
+                    kind: KernelKind::Memory,
+                    line: 9999
+                }
+            ),
             Ok(read) => {
                 let mut printed = Vec::new(rt.alloc());
                 print_unit(&read.unit, &mut printed)?;

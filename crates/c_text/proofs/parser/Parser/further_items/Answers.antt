@@ -20,7 +20,7 @@ pub all-preserved : goal.all-preserved
 all-preserved c =
     let test = sym c.next_is.ensures ∙ c.if-not-next_is.false in
     let r = one_more (is_ahead (codes ",")) add_item _ _ _ _ c.all.items _ _ c.all.invariant.read.1 c.in_ok-item.ensures.shorter c.all.invariant.read.2 test
-      (ap (λ r. r >>= λ x. Ok (c.all.items ++ x.0 ∷ [], x.1)) c.in_ok-item.ensures.read) in
+    (ap (λ r. r >>= λ x. Ok (c.all.items ++ x.0 ∷ [], x.1)) c.in_ok-item.ensures.read) in
     record {
       shorter = omega (arith, c.all.invariant.shorter, c.in_ok-item.ensures.shorter);
       read = (r.0, r.1, r.2 ∙ ap (λ ts. repeat (is_ahead (codes ",")) add_item r.0 ts (stream c.further_item.new.self)) (sym c.in_ok-push.ensures.ok));

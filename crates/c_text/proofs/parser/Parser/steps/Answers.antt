@@ -22,5 +22,5 @@ all-preserved c =
     record {
       shorter = omega (arith, c.all.invariant.shorter, c.in_ok-factor.ensures.shorter);
       read = one_more (is_ahead (codes "+")) (add_step c.args.depth) _ _ _ _ _ _ _ c.all.invariant.read.1 c.in_ok-factor.ensures.shorter c.all.invariant.read.2 test
-        (ap (λ r. r >>= λ x. Ok (with_step (record { steps = c.all.steps; from = c.all.from; line = c.all.last }) x.0, x.1)) c.in_ok-factor.ensures.read);
+          (ap (λ r. r >>= λ x. Ok (with_step (record { steps = c.all.steps; from = c.all.from; line = c.all.last }) x.0, x.1)) c.in_ok-factor.ensures.read);
     }

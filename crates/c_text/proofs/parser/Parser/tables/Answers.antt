@@ -21,7 +21,7 @@ pub all-preserved : goal.all-preserved
 all-preserved c =
     let test = sym c.next_is.ensures ∙ c.if-not-next_is.false in
     let r = one_more (is_ahead (codes "static")) add_table _ _ _ _ c.all.tables _ _ c.all.invariant.read.1 c.in_ok-table.ensures.shorter c.all.invariant.read.2 test
-      (ap (λ r. r >>= λ x. Ok (c.all.tables ++ x.0 ∷ [], x.1)) (ap (λ k. table_at k (stream c.all.self)) (sym c.len.ensures) ∙ c.in_ok-table.ensures.read)) in
+    (ap (λ r. r >>= λ x. Ok (c.all.tables ++ x.0 ∷ [], x.1)) (ap (λ k. table_at k (stream c.all.self)) (sym c.len.ensures) ∙ c.in_ok-table.ensures.read)) in
     record {
       shorter = omega (arith, c.all.invariant.shorter, c.in_ok-table.ensures.shorter);
       read = (r.0, r.1, r.2 ∙ ap (λ ts. repeat (is_ahead (codes "static")) add_table r.0 ts (stream c.table.new.self)) (sym c.in_ok-push.ensures.ok));
