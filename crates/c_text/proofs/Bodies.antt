@@ -40,7 +40,7 @@ line_without scope tables s = refl
 pub line_call_at : (room : ℕ) (scope : Scope) (tables : List (List Ratio)) (s : Stream) → (nat_lt 0 room && is_ahead (codes "for") s) ≡ false
     → line_at room scope tables s ≡ call_line_at (line_ahead s) scope tables s
 line_call_at zero scope tables s e = line_without scope tables s
-line_call_at (suc k) scope tables s e = line_call k scope tables s e
+line_call_at (suc k) scope tables s e = line_call k scope tables s (sym (ap (λ b. b && is_ahead (codes "for") s) (lt-ltb 0 (suc k) (omega arith))) ∙ e)
 
 abbrev Repeats : Bool → ℕ → Scope → List (List Ratio) → Stream → Type 0
 Repeats loops room scope tables s = body_at room scope tables s ≡ repeat (is_statement loops) (add_line (line_at room) scope tables) (length s.tokens) no_body s
@@ -55,7 +55,7 @@ body_with k scope tables s = refl
 
 pub body_from : (room : ℕ) (scope : Scope) (tables : List (List Ratio)) (s : Stream) → Repeats (nat_lt 0 room) room scope tables s
 body_from zero scope tables s = body_without scope tables s
-body_from (suc k) scope tables s = body_with k scope tables s
+body_from (suc k) scope tables s = subst (λ b. Repeats b (suc k) scope tables s) (sym (lt-ltb 0 (suc k) (omega arith))) (body_with k scope tables s)
 
 -- where a statement begins a token is left
 some_call : (a b c d e : Bool) (s : Stream) → is_ahead (codes "fr_set") s ≡ a → is_ahead (codes "fr_copy") s ≡ b → is_ahead (codes "fr_abs") s ≡ c → is_ahead (codes "fr_load") s ≡ d → is_ahead (codes "if") s ≡ e

@@ -44,7 +44,7 @@ body-all-preserved t c =
         r.2
         ∙ ap (λ ss. repeat more one r.0 (record { statements = ss; lines = c.all.lines ++ c.in_ok-statement.more; count = capped (c.all.count + c.in_ok-statement.counted) }) (stream c.line.new.self)) (sym c.in_ok-push.ensures.ok)
         ∙ ap (λ ls. repeat more one r.0 (record { statements = c.push.new.self; lines = ls; count = capped (c.all.count + c.in_ok-statement.counted) }) (stream c.line.new.self)) (sym c.in_ok-append.ensures)
-        ∙ ap (λ n. repeat more one r.0 (record { statements = c.push.new.self; lines = c.append.new.self; count = n }) (stream c.line.new.self)) (sym c.sum_capped.ensures));
+        ∙ ap (λ n. repeat more one r.0 (record { statements = c.push.new.self; lines = c.append.new.self; count = n }) (stream c.line.new.self)) (sym c.sum_capped-count.ensures));
     }
 
 pub line-returns-then-is_loop-clause-read : goal.line-returns-then-is_loop-clause-read

@@ -31,5 +31,5 @@ all-preserved c =
         r.2
         ∙ ap (λ fs. repeat is_more add_function r.0 (record { unit = record { funs = fs }; enums = c.all.enums ++ c.in_ok-fun.line ∷ []; lines = c.all.all_lines ++ c.in_ok-fun.lines ∷ [] }) (stream c.function.new.self)) (sym c.in_ok-push.ensures.ok)
         ∙ ap (λ es. repeat is_more add_function r.0 (record { unit = record { funs = c.push.new.self }; enums = es; lines = c.all.all_lines ++ c.in_ok-fun.lines ∷ [] }) (stream c.function.new.self)) (sym c.in_ok-push-2.ensures.ok)
-        ∙ ap (λ ls. repeat is_more add_function r.0 (record { unit = record { funs = c.push.new.self }; enums = c.push-2.new.self; lines = ls }) (stream c.function.new.self)) (sym c.in_ok-push-3.ensures.ok));
+        ∙ ap (λ ls. repeat is_more add_function r.0 (record { unit = record { funs = c.push.new.self }; enums = c.push-in-all.new.self; lines = ls }) (stream c.function.new.self)) (sym c.in_ok-push-3.ensures.ok));
     }
