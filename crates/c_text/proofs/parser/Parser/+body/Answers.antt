@@ -1,9 +1,9 @@
 use Rattle.std.proofs.Common.{◌≡◌, ◌≤◌, ◌<◌, ◌∙◌, refl, sym, ap, ap₂, nat_lt, Ok, List, [], ◌∷◌, ◌++◌, ◌+◌, length, arith}
 use Rattle.c_text.specs.declared.statement.Body.{Body}
 use Rattle.c_text.specs.Stream.{◌>>=◌, repeat}
-use Rattle.c_text.specs.Statements.{is_statement, add_line, with_line, line_at, body_at, capped}
+use Rattle.c_text.specs.Statements.{is_statement, add_line, with_line, line_at, body_at}
 use Rattle.c_text.specs.Parser.{stream, left}
-use Rattle.c_text.proofs.ReadLaws.{gives_as, gives_err, fails_through, fails_as}
+use Rattle.c_text.proofs.ReadLaws.{same_three, gives_as, gives_err, fails_through, fails_as}
 use Rattle.c_text.proofs.Repeats.{one_more, none_more, all_read}
 use Rattle.c_text.proofs.Bodies.{body_from, line_loop_at, line_call_at, some_statement}
 use Rattle.c_text.proofs.parser.Parser.+body.Goals as goal
@@ -42,9 +42,7 @@ body-all-preserved t c =
       shorter = omega (arith, c.all.invariant.shorter, c.in_ok-statement.ensures.shorter);
       read = (r.0, r.1,
         r.2
-        ∙ ap (λ ss. repeat more one r.0 (record { statements = ss; lines = c.all.lines ++ c.in_ok-statement.more; count = capped (c.all.count + c.in_ok-statement.counted) }) (stream c.line.new.self)) (sym c.in_ok-push.ensures.ok)
-        ∙ ap (λ ls. repeat more one r.0 (record { statements = c.push.new.self; lines = ls; count = capped (c.all.count + c.in_ok-statement.counted) }) (stream c.line.new.self)) (sym c.in_ok-append.ensures)
-        ∙ ap (λ n. repeat more one r.0 (record { statements = c.push.new.self; lines = c.append.new.self; count = n }) (stream c.line.new.self)) (sym c.sum_capped-count.ensures));
+        ∙ same_three (λ ss ls n. repeat more one r.0 (record { statements = ss; lines = ls; count = n }) (stream c.line.new.self)) (sym c.in_ok-push.ensures.ok) (sym c.in_ok-append.ensures) (sym c.sum_capped-count.ensures));
     }
 
 pub line-returns-then-is_loop-clause-read : goal.line-returns-then-is_loop-clause-read

@@ -4,7 +4,7 @@ use Rattle.c_text.specs.declared.read.ReadUnit.{ReadUnit}
 use Rattle.c_text.specs.Stream.{◌>>=◌, repeat}
 use Rattle.c_text.specs.Units.{function_at, add_function, with_function, is_more}
 use Rattle.c_text.specs.Parser.{stream, left}
-use Rattle.c_text.proofs.ReadLaws.{gives_err, fails_through, fails_as}
+use Rattle.c_text.proofs.ReadLaws.{same_three, gives_err, fails_through, fails_as}
 use Rattle.c_text.proofs.Repeats.{one_more, none_more, all_read, some_more}
 use Rattle.c_text.proofs.parser.Parser.functions.Goals as goal
 
@@ -29,7 +29,5 @@ all-preserved c =
       shorter = omega (arith, c.all.invariant.shorter, c.in_ok-fun.ensures.shorter);
       read = (r.0, r.1,
         r.2
-        ∙ ap (λ fs. repeat is_more add_function r.0 (record { unit = record { funs = fs }; enums = c.all.enums ++ c.in_ok-fun.line ∷ []; lines = c.all.all_lines ++ c.in_ok-fun.lines ∷ [] }) (stream c.function.new.self)) (sym c.in_ok-push.ensures.ok)
-        ∙ ap (λ es. repeat is_more add_function r.0 (record { unit = record { funs = c.push.new.self }; enums = es; lines = c.all.all_lines ++ c.in_ok-fun.lines ∷ [] }) (stream c.function.new.self)) (sym c.in_ok-push-2.ensures.ok)
-        ∙ ap (λ ls. repeat is_more add_function r.0 (record { unit = record { funs = c.push.new.self }; enums = c.push-in-all.new.self; lines = ls }) (stream c.function.new.self)) (sym c.in_ok-push-3.ensures.ok));
+        ∙ same_three (λ fs es ls. repeat is_more add_function r.0 (record { unit = record { funs = fs }; enums = es; lines = ls }) (stream c.function.new.self)) (sym c.in_ok-push.ensures.ok) (sym c.in_ok-push-2.ensures.ok) (sym c.in_ok-push-3.ensures.ok));
     }
