@@ -5,15 +5,14 @@ ghost use Rattle.c_text.specs.Stream.{Gives};
 ghost use Rattle.c_text.specs.Parser.{stream, left};
 ghost use Rattle.c_text.specs.Units.{without_suffix as front_of, is_among as is_name_of_one, name_at, size_at, named_size_at, repeated_at, signature_at, clear_at, slots_at, end_at, sizes_at, function_at, functions_at, is_more as is_more_ahead, fault_at_end as fault_of_end, reading, Answers, IsRead};
 
-use c_unit::{CFun, CUnit};
-use sqlite_items::Items;
-use std::alloc::Global;
-
 use crate::fraction::LARGEST;
 use crate::parser::{Parser, syntax};
 use crate::place::{Scope, refused};
 use crate::refusal::{KernelKind, KernelRefusal, ReadFault};
 use crate::statement::Body;
+use c_unit::{CFun, CUnit};
+use sqlite_items::Items;
+use std::alloc::Global;
 
 /// The greatest number of bytes.
 const LONGEST: usize = 0x1000_0000;
@@ -127,7 +126,10 @@ impl<'a> Parser<'a> {
     {
         self.expect(b"int")?;
         self.expect(name)?;
-        self.expect_all(&[b"(", b"const", b"fr", b"*", b"X", b",", b"const", b"fr", b"*", b"W", b",", b"fr", b"*", b"A", b")"])
+        self.expect_all(&[
+            b"(", b"const", b"fr", b"*", b"X", b",", b"const", b"fr", b"*", b"W", b",", b"fr",
+            b"*", b"A", b")",
+        ])
     }
 
     // The call that clears an array.
@@ -182,7 +184,17 @@ impl<'a> Parser<'a> {
         let t = self.named_size(name, b"_T", 1)?;
         let a = self.named_size(name, b"_A", 0)?;
         self.expect_all(&[b"}", b";"])?;
-        Ok((name, Scope { x, w, t, a, turns: [1; 4], depth: 0 }))
+        Ok((
+            name,
+            Scope {
+                x,
+                w,
+                t,
+                a,
+                turns: [1; 4],
+                depth: 0,
+            },
+        ))
     }
 
     #[tactic(auto, unfolding(crate::specs::Units::function_at))]
@@ -195,10 +207,22 @@ impl<'a> Parser<'a> {
         self.signature(name)?;
         self.slots(scope.t, scope.a)?;
         let tables = self.tables(alloc)?;
-        let Body { statements, lines, count } = self.body(alloc, &scope, tables.as_slice(), 4)?;
+        let Body {
+            statements,
+            lines,
+            count,
+        } = self.body(alloc, &scope, tables.as_slice(), 4)?;
         self.end_of_function(count)?;
         let name = Items::from_slice(alloc, name)?;
-        let fun = CFun { name, x: scope.x, w: scope.w, t: scope.t, a: scope.a, tables, body: statements };
+        let fun = CFun {
+            name,
+            x: scope.x,
+            w: scope.w,
+            t: scope.t,
+            a: scope.a,
+            tables,
+            body: statements,
+        };
         Ok(ReadFun { fun, line, lines })
     }
 
@@ -212,7 +236,11 @@ impl<'a> Parser<'a> {
         let mut all_lines = Items::new(alloc);
         'all: loop {
             if !self.is_more() {
-                return Ok(ReadUnit { unit: CUnit { funs }, enums, lines: all_lines });
+                return Ok(ReadUnit {
+                    unit: CUnit { funs },
+                    enums,
+                    lines: all_lines,
+                });
             }
             let ReadFun { fun, line, lines } = self.function(alloc, funs.as_slice())?;
             funs.push(fun)?;
@@ -266,6 +294,9 @@ pub fn read_unit(alloc: Global, text: &[u8]) -> Result<ReadUnit, KernelRefusal>
     match read_all(alloc, text) {
         Ok(unit) => Ok(unit),
         Err(ReadFault::Refused(refusal)) => Err(refusal),
-        Err(ReadFault::Memory) => Err(KernelRefusal { kind: KernelKind::Memory, line: 0 }),
+        Err(ReadFault::Memory) => Err(KernelRefusal {
+            kind: KernelKind::Memory,
+            line: 0,
+        }),
     }
 }

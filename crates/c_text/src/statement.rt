@@ -5,15 +5,14 @@ ghost use Rattle.c_text.specs.Stream.{Gives, is_ahead};
 ghost use Rattle.c_text.specs.Parser.{stream, left};
 ghost use Rattle.c_text.specs.Statements.{set_at, pair_at, copy_at, abs_at, inverse_at, triple_at, add_at, sub_at, mul_at, step_call_at, test_at, table_used_at, load_at, call_at, own_counter_at, turns_at, header_at, line_ahead as line_of_next, loop_by, line_at, body_at, call_line_at, inside as inside_of, capped, is_call as is_call_ahead, is_statement as is_statement_ahead};
 
-use c_unit::{Array, CStmt, Place};
-use ratio::Ratio;
-use sqlite_items::Items;
-use std::alloc::{AllocError, Global};
-
 use crate::number::{counter_number, table_number};
 use crate::parser::{Parser, syntax};
 use crate::place::{Scope, refused};
 use crate::refusal::{KernelKind, ReadFault};
+use c_unit::{Array, CStmt, Place};
+use ratio::Ratio;
+use sqlite_items::Items;
+use std::alloc::{AllocError, Global};
 
 // One more than a function may run.
 const CAP: u64 = 0x400_0001;
@@ -341,7 +340,12 @@ impl<'a> Parser<'a> {
     }
 
     #[tactic(auto, unfolding(crate::specs::Statements::call_line_at))]
-    fn call_line(&mut self, alloc: Global, scope: &Scope, tables: &[Items<Ratio>]) -> Result<Line, ReadFault>
+    fn call_line(
+        &mut self,
+        alloc: Global,
+        scope: &Scope,
+        tables: &[Items<Ratio>],
+    ) -> Result<Line, ReadFault>
         requires { scope.now.depth ≤ 4 }
         ensures read { Gives (λ x. x) result (stream self.new) (call_line_at (line_of_next (stream self.old)) scope.now tables.now (stream self.old)) }
         ensures shorter { OnOk result (left self.new < left self.old) }
@@ -392,12 +396,19 @@ impl<'a> Parser<'a> {
         let line = self.line_ahead();
         let turns = self.header(scope.depth)?;
         let inner = scope.inside(turns);
-        let Body { statements, lines: more, count } = self.body(alloc, &inner, tables, room)?;
+        let Body {
+            statements,
+            lines: more,
+            count,
+        } = self.body(alloc, &inner, tables, room)?;
         self.expect(b"}")?;
         let mut lines = one_line(alloc, line)?;
         lines.append(more)?;
         Ok(Line {
-            statement: CStmt::For { turns, body: statements },
+            statement: CStmt::For {
+                turns,
+                body: statements,
+            },
             lines,
             count: product_capped(count, turns),
         })
@@ -421,9 +432,17 @@ impl<'a> Parser<'a> {
         let mut count: u64 = 0;
         'all: loop {
             if !self.is_statement(room) {
-                return Ok(Body { statements, lines, count });
+                return Ok(Body {
+                    statements,
+                    lines,
+                    count,
+                });
             }
-            let Line { statement, lines: more, count: counted } = self.line(alloc, scope, tables, room)?;
+            let Line {
+                statement,
+                lines: more,
+                count: counted,
+            } = self.line(alloc, scope, tables, room)?;
             statements.push(statement)?;
             lines.append(more)?;
             count = sum_capped(count, counted);

@@ -14,8 +14,12 @@ body-all-init t c =
     let r = c.args.room in
     record {
       shorter = omega arith;
-      read = (length s.tokens, omega arith, body_from r c.args.scope.now c.args.tables.now s
-        ∙ ap₂ (λ ss ls. repeat (is_statement (nat_lt 0 r)) (add_line (line_at r) c.args.scope.now c.args.tables.now) (length s.tokens) (record { statements = ss; lines = ls; count = 0 }) s) (sym c.new-statements.ensures) (sym c.new-lines.ensures));
+      read = (
+        length s.tokens,
+        omega arith,
+        body_from r c.args.scope.now c.args.tables.now s
+            ∙ ap₂ (λ ss ls. repeat (is_statement (nat_lt 0 r)) (add_line (line_at r) c.args.scope.now c.args.tables.now) (length s.tokens) (record { statements = ss; lines = ls; count = 0 }) s) (sym c.new-statements.ensures) (sym c.new-lines.ensures),
+      );
     }
 
 pub body-returns-then-not-is_statement-clause-read : goal.body-returns-then-not-is_statement-clause-read
@@ -37,12 +41,15 @@ body-all-preserved t c =
     let one = add_line (line_at c.args.room) c.args.scope.now c.args.tables.now in
     let a : Body = record { statements = c.all.statements; lines = c.all.lines; count = c.all.count } in
     let r = one_more more one _ _ _ _ a _ _ c.all.invariant.read.1 c.in_ok-statement.ensures.shorter c.all.invariant.read.2 test
-      (ap (λ r. r >>= λ x. Ok (with_line a x.0, x.1)) c.in_ok-statement.ensures.read) in
+    (ap (λ r. r >>= λ x. Ok (with_line a x.0, x.1)) c.in_ok-statement.ensures.read) in
     record {
       shorter = omega (arith, c.all.invariant.shorter, c.in_ok-statement.ensures.shorter);
-      read = (r.0, r.1,
+      read = (
+        r.0,
+        r.1,
         r.2
-        ∙ same_three (λ ss ls n. repeat more one r.0 (record { statements = ss; lines = ls; count = n }) (stream c.line.new.self)) (sym c.in_ok-push.ensures.ok) (sym c.in_ok-append.ensures) (sym c.sum_capped-count.ensures));
+            ∙ same_three (λ ss ls n. repeat more one r.0 (record { statements = ss; lines = ls; count = n }) (stream c.line.new.self)) (sym c.in_ok-push.ensures.ok) (sym c.in_ok-append.ensures) (sym c.sum_capped-count.ensures),
+      );
     }
 
 pub line-returns-then-is_loop-clause-read : goal.line-returns-then-is_loop-clause-read

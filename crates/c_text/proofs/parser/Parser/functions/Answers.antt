@@ -24,10 +24,13 @@ all-preserved c =
     let test = sym c.is_more.ensures ∙ c.if-not-is_more.false in
     let a : ReadUnit = record { unit = record { funs = c.all.funs }; enums = c.all.enums; lines = c.all.all_lines } in
     let r = one_more is_more add_function _ _ _ _ a _ _ c.all.invariant.read.1 c.in_ok-fun.ensures.shorter c.all.invariant.read.2 test
-      (ap (λ r. r >>= λ x. Ok (with_function a x.0, x.1)) (ap (λ fs. function_at fs (stream c.all.self)) (sym c.as_slice.ensures) ∙ c.in_ok-fun.ensures.read)) in
+    (ap (λ r. r >>= λ x. Ok (with_function a x.0, x.1)) (ap (λ fs. function_at fs (stream c.all.self)) (sym c.as_slice.ensures) ∙ c.in_ok-fun.ensures.read)) in
     record {
       shorter = omega (arith, c.all.invariant.shorter, c.in_ok-fun.ensures.shorter);
-      read = (r.0, r.1,
+      read = (
+        r.0,
+        r.1,
         r.2
-        ∙ same_three (λ fs es ls. repeat is_more add_function r.0 (record { unit = record { funs = fs }; enums = es; lines = ls }) (stream c.function.new.self)) (sym c.in_ok-push.ensures.ok) (sym c.in_ok-push-2.ensures.ok) (sym c.in_ok-push-3.ensures.ok));
+            ∙ same_three (λ fs es ls. repeat is_more add_function r.0 (record { unit = record { funs = fs }; enums = es; lines = ls }) (stream c.function.new.self)) (sym c.in_ok-push.ensures.ok) (sym c.in_ok-push-2.ensures.ok) (sym c.in_ok-push-3.ensures.ok),
+      );
     }
