@@ -12,9 +12,22 @@ line_loop : (k : ℕ) (scope : Scope) (tables : List (List Ratio)) (s : Stream) 
 unfolding line_at line_by
 line_loop k scope tables s e = ap (λ b. if b then loop_by (body_at k) (line_ahead s) scope tables s else call_line_at (line_ahead s) scope tables s) e
 
-pub line_loop_at : (d : ℕ) (scope : Scope) (tables : List (List Ratio)) (s : Stream) → d < 4 → is_ahead (codes "for") s ≡ true
-    → line_at (4 - d) scope tables s ≡ loop_by (body_at (3 - d)) (line_ahead s) scope tables s
-line_loop_at d scope tables s h e = let r : 4 - d ≡ suc (3 - d) = omega arith in ap (λ n. line_at n scope tables s) r ∙ line_loop (3 - d) scope tables s e
+second_true : (a b : Bool) → (a && b) ≡ true → b ≡ true
+second_true true b e = e
+second_true false b e = cc
+
+first_true : (a b : Bool) → (a && b) ≡ true → a ≡ true
+first_true true b e = refl
+first_true false b e = cc
+
+line_loop_by : (r k : ℕ) (scope : Scope) (tables : List (List Ratio)) (s : Stream) → r ≡ suc k → is_ahead (codes "for") s ≡ true → line_at r scope tables s ≡ loop_by (body_at k) (line_ahead s) scope tables s
+line_loop_by r k scope tables s h e = ap (λ n. line_at n scope tables s) h ∙ line_loop k scope tables s e
+
+pub line_loop_at : (room : ℕ) (scope : Scope) (tables : List (List Ratio)) (s : Stream) → (nat_lt 0 room && is_ahead (codes "for") s) ≡ true
+    → line_at room scope tables s ≡ loop_by (body_at (room - 1)) (line_ahead s) scope tables s
+line_loop_at room scope tables s e =
+    let h : 0 < room = ltb-true 0 room (first_true _ (is_ahead (codes "for") s) e) in
+    line_loop_by room (room - 1) scope tables s (omega (arith, h)) (second_true (nat_lt 0 room) _ e)
 
 line_call : (k : ℕ) (scope : Scope) (tables : List (List Ratio)) (s : Stream) → is_ahead (codes "for") s ≡ false → line_at (suc k) scope tables s ≡ call_line_at (line_ahead s) scope tables s
 unfolding line_at line_by
@@ -24,20 +37,10 @@ line_without : (scope : Scope) (tables : List (List Ratio)) (s : Stream) → lin
 unfolding line_at line_by
 line_without scope tables s = refl
 
-line_call_by : (t : Bool) (d : ℕ) (scope : Scope) (tables : List (List Ratio)) (s : Stream) → nat_lt d 4 ≡ t → (t && is_ahead (codes "for") s) ≡ false
-    → line_at (4 - d) scope tables s ≡ call_line_at (line_ahead s) scope tables s
-line_call_by true d scope tables s h e =
-    let l : d < 4 = ltb-true d 4 h in
-    let r : 4 - d ≡ suc (3 - d) = omega (arith, l) in
-    ap (λ n. line_at n scope tables s) r ∙ line_call (3 - d) scope tables s e
-line_call_by false d scope tables s h e =
-    let l : 4 ≤ d = ltb-false d 4 h in
-    let r : 4 - d ≡ 0 = omega (arith, l) in
-    ap (λ n. line_at n scope tables s) r ∙ line_without scope tables s
-
-pub line_call_at : (d : ℕ) (scope : Scope) (tables : List (List Ratio)) (s : Stream) → (nat_lt d 4 && is_ahead (codes "for") s) ≡ false
-    → line_at (4 - d) scope tables s ≡ call_line_at (line_ahead s) scope tables s
-line_call_at d scope tables s e = line_call_by (nat_lt d 4) d scope tables s refl e
+pub line_call_at : (room : ℕ) (scope : Scope) (tables : List (List Ratio)) (s : Stream) → (nat_lt 0 room && is_ahead (codes "for") s) ≡ false
+    → line_at room scope tables s ≡ call_line_at (line_ahead s) scope tables s
+line_call_at zero scope tables s e = line_without scope tables s
+line_call_at (suc k) scope tables s e = line_call k scope tables s (sym (ap (λ b. b && is_ahead (codes "for") s) (lt-ltb 0 (suc k) (omega arith))) ∙ e)
 
 abbrev Repeats : Bool → ℕ → Scope → List (List Ratio) → Stream → Type 0
 Repeats loops room scope tables s = body_at room scope tables s ≡ repeat (is_statement loops) (add_line (line_at room) scope tables) (length s.tokens) no_body s
@@ -50,29 +53,9 @@ body_with : (k : ℕ) (scope : Scope) (tables : List (List Ratio)) (s : Stream) 
 unfolding body_at line_at
 body_with k scope tables s = refl
 
-body_from_by : (t : Bool) (d : ℕ) (scope : Scope) (tables : List (List Ratio)) (s : Stream) → nat_lt d 4 ≡ t → Repeats t (4 - d) scope tables s
-body_from_by true d scope tables s h =
-    let l : d < 4 = ltb-true d 4 h in
-    let r : suc (3 - d) ≡ 4 - d = omega (arith, l) in
-    subst (λ n. Repeats true n scope tables s) r (body_with (3 - d) scope tables s)
-body_from_by false d scope tables s h =
-    let l : 4 ≤ d = ltb-false d 4 h in
-    let r : 0 ≡ 4 - d = omega (arith, l) in
-    subst (λ n. Repeats false n scope tables s) r (body_without scope tables s)
-
-pub body_from : (d : ℕ) (scope : Scope) (tables : List (List Ratio)) (s : Stream) → Repeats (nat_lt d 4) (4 - d) scope tables s
-body_from d scope tables s = body_from_by (nat_lt d 4) d scope tables s refl
-
-second_true : (a b : Bool) → (a && b) ≡ true → b ≡ true
-second_true true b e = e
-second_true false b e = cc
-
-first_true : (a b : Bool) → (a && b) ≡ true → a ≡ true
-first_true true b e = refl
-first_true false b e = cc
-
-pub deep_enough : (d : ℕ) (b : Bool) → (nat_lt d 4 && b) ≡ true → (d < 4) × (b ≡ true)
-deep_enough d b e = (ltb-true d 4 (first_true _ b e), second_true (nat_lt d 4) b e)
+pub body_from : (room : ℕ) (scope : Scope) (tables : List (List Ratio)) (s : Stream) → Repeats (nat_lt 0 room) room scope tables s
+body_from zero scope tables s = body_without scope tables s
+body_from (suc k) scope tables s = subst (λ b. Repeats b (suc k) scope tables s) (sym (lt-ltb 0 (suc k) (omega arith))) (body_with k scope tables s)
 
 -- where a statement begins a token is left
 some_call : (a b c d e : Bool) (s : Stream) → is_ahead (codes "fr_set") s ≡ a → is_ahead (codes "fr_copy") s ≡ b → is_ahead (codes "fr_abs") s ≡ c → is_ahead (codes "fr_load") s ≡ d → is_ahead (codes "if") s ≡ e

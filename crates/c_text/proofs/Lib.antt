@@ -5,3 +5,4 @@ pub mod Bodies
 pub mod LowestLaws
 pub mod Repeats
 pub mod NumberLaws
+pub mod UnitLaws

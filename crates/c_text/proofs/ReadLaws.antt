@@ -25,3 +25,6 @@ read_ok r x f e = ap (λ q. q >>= f) e
 pub gives_as : {X Y : Type 0} (view : X → Y) (r : Result X ReadFault) (new : Stream) (read read' : Read Y) → read ≡ read' → Gives view r new read' → Gives view r new read
 gives_as view (Ok x) new read read' e h = e ∙ h
 gives_as view (Err x) new read read' e h = fails_as x read' read e h
+
+pub same_three : {A B C D : Type 0} (f : A → B → C → D) {a a' : A} {b b' : B} {c c' : C} → a ≡ a' → b ≡ b' → c ≡ c' → f a b c ≡ f a' b' c'
+same_three f {a} {a'} {b} {b'} {c} {c'} p q r = ap (λ x. f x b c) p ∙ ap (λ y. f a' y c) q ∙ ap (λ z. f a' b' z) r

@@ -151,9 +151,18 @@ is_lex kinds.Bound = false
 is_lex kinds.Sizes = false
 is_lex kinds.Memory = false
 
+abbrev pub fault_by : List Token → KernelRefusal → Option KernelRefusal
+fault_by [] end = if is_lex end.kind then Some end else None
+fault_by (t ∷ ts) end = None
+
+-- the place behind the last token where no token starts
+unfoldable pub fault_at_end : Stream → Option KernelRefusal
+fault_at_end s = fault_by s.tokens s.end
+
 -- what was read, unless no token starts at the end
-abbrev pub finished : ReadUnit → Stream → Result ReadUnit KernelRefusal
-finished u s = if is_lex s.end.kind then Err s.end else Ok u
+abbrev pub finished : ReadUnit → Option KernelRefusal → Result ReadUnit KernelRefusal
+finished u None = Ok u
+finished u (Some e) = Err e
 
 -- The unit of a text with the lines of its statements, or the first place where it is refused.
 unfoldable pub reading : List ℕ → Result ReadUnit KernelRefusal
@@ -161,7 +170,7 @@ reading text =
     if nat_lt 268435456 (length text) then Err (refusal kinds.TooLong 0) else (do
       h ← expects (codes "#include" ∷ codes "\"fr.h\"" ∷ []) (stream_of text)
       u ← functions_at h.1
-      finished u.0 u.1)
+      finished u.0 (fault_at_end u.1))
 
 -- The same of a fault.
 abbrev pub IsRead : Result ReadUnit ReadFault → Result ReadUnit KernelRefusal → Type 0
@@ -175,7 +184,7 @@ Refuses kinds.TooLong e read = read ≡ Err e
 Refuses kinds.Syntax e read = read ≡ Err e
 Refuses kinds.Slot e read = read ≡ Err e
 Refuses kinds.Bound e read = read ≡ Err e
-Refuses kinds.Sizes e read = ⊥
+Refuses kinds.Sizes e read = read ≡ Err e
 
 -- The answer is what reading gives, unless memory ran out.
 abbrev pub Answers : Result ReadUnit KernelRefusal → Result ReadUnit KernelRefusal → Type 0

@@ -3,7 +3,7 @@
 ghost use Rattle.std.specs.Prelude.{◌≡◌, ◌<◌, ◌≤◌, OnOk, IfOk, option_map};
 ghost use Rattle.c_text.specs.Stream.{Gives};
 ghost use Rattle.c_text.specs.Parser.{stream, left};
-ghost use Rattle.c_text.specs.Units.{without_suffix as front_of, is_among as is_name_of_one, name_at, size_at, named_size_at, repeated_at, signature_at, clear_at, slots_at, end_at, sizes_at, is_more as is_more_ahead, is_lex};
+ghost use Rattle.c_text.specs.Units.{without_suffix as front_of, is_among as is_name_of_one, name_at, size_at, named_size_at, repeated_at, signature_at, clear_at, slots_at, end_at, sizes_at, function_at, functions_at, is_more as is_more_ahead, fault_at_end as fault_of_end, reading, Answers, IsRead};
 
 use crate::fraction::LARGEST;
 use crate::parser::{Parser, syntax};
@@ -197,7 +197,9 @@ impl<'a> Parser<'a> {
         ))
     }
 
+    #[tactic(auto, unfolding(crate::specs::Units::function_at))]
     fn function(&mut self, alloc: Global, funs: &[CFun]) -> Result<ReadFun, ReadFault>
+        ensures read { Gives (λ x. x) result (stream self.new) (function_at funs.now (stream self.old)) }
         ensures shorter { OnOk result (left self.new < left self.old) }
     {
         let line = self.expect(b"enum")?;
@@ -209,7 +211,7 @@ impl<'a> Parser<'a> {
             statements,
             lines,
             count,
-        } = self.body(alloc, &scope, tables.as_slice())?;
+        } = self.body(alloc, &scope, tables.as_slice(), 4)?;
         self.end_of_function(count)?;
         let name = Items::from_slice(alloc, name)?;
         let fun = CFun {
@@ -225,7 +227,10 @@ impl<'a> Parser<'a> {
     }
 
     // All functions up to the end of the text.
-    fn functions(&mut self, alloc: Global) -> Result<ReadUnit, ReadFault> {
+    #[tactic(auto, unfolding(crate::specs::Units::functions_at))]
+    fn functions(&mut self, alloc: Global) -> Result<ReadUnit, ReadFault>
+        ensures { Gives (λ x. x) result (stream self.new) (functions_at (stream self.old)) }
+    {
         let mut funs = Items::new(alloc);
         let mut enums = Items::new(alloc);
         let mut all_lines = Items::new(alloc);
@@ -251,32 +256,41 @@ impl<'a> Parser<'a> {
         self.ahead.is_some()
     }
 
-    // Whether no token starts behind the last one.
-    fn is_lost(&self) -> bool
-        ensures lost { result ≡ is_lex self.now.end.kind }
+    // The place behind the last token where no token starts, if there is one.
+    #[tactic(auto, unfolding(crate::specs::Units::fault_at_end, crate::specs::Stream::stream_behind))]
+    fn fault_at_end(&self) -> Option<KernelRefusal>
+        ensures { result ≡ fault_of_end (stream self.now) }
     {
-        match self.end.kind {
-            KernelKind::Lex => true,
-            _ => false,
+        match self.ahead {
+            Some(_) => None,
+            None => match self.end.kind {
+                KernelKind::Lex => Some(self.end),
+                _ => None,
+            },
         }
     }
 }
 
-fn read_all(alloc: Global, text: &[u8]) -> Result<ReadUnit, ReadFault> {
+#[tactic(auto, using(crate::proofs::UnitLaws::reading_ends), unfolding(crate::specs::Units::reading))]
+fn read_all(alloc: Global, text: &[u8]) -> Result<ReadUnit, ReadFault>
+    ensures { IsRead result (reading text.now) }
+{
     if text.len() > LONGEST {
         return Err(refused(KernelKind::TooLong, 0));
     }
     let mut parser = Parser::new(text);
     parser.expect_all(&[b"#include", b"\"fr.h\""])?;
     let unit = parser.functions(alloc)?;
-    if parser.is_lost() {
-        return Err(ReadFault::Refused(parser.end));
+    match parser.fault_at_end() {
+        Some(fault) => Err(ReadFault::Refused(fault)),
+        None => Ok(unit),
     }
-    Ok(unit)
 }
 
 /// The unit of a text, or the first place where it is refused.
-pub fn read_unit(alloc: Global, text: &[u8]) -> Result<ReadUnit, KernelRefusal> {
+pub fn read_unit(alloc: Global, text: &[u8]) -> Result<ReadUnit, KernelRefusal>
+    ensures exact { Answers result (reading text.now) }
+{
     match read_all(alloc, text) {
         Ok(unit) => Ok(unit),
         Err(ReadFault::Refused(refusal)) => Err(refusal),

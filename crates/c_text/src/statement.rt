@@ -1,9 +1,9 @@
 // Statements.
 
-ghost use Rattle.std.specs.Prelude.{◌≡◌, ◌<◌, ◌≤◌, ◌+◌, ℕ, ◌||◌, ◌&&◌, OnOk, IfOk, [], ◌∷◌, ◌-◌, nat_lt, codes};
+ghost use Rattle.std.specs.Prelude.{◌≡◌, ◌<◌, ◌≤◌, ◌+◌, ◌*◌, ℕ, ◌||◌, ◌&&◌, OnOk, IfOk, [], ◌∷◌, ◌-◌, nat_lt, codes};
 ghost use Rattle.c_text.specs.Stream.{Gives, is_ahead};
 ghost use Rattle.c_text.specs.Parser.{stream, left};
-ghost use Rattle.c_text.specs.Statements.{set_at, pair_at, copy_at, abs_at, inverse_at, triple_at, add_at, sub_at, mul_at, step_call_at, test_at, table_used_at, load_at, call_at, own_counter_at, turns_at, header_at, line_ahead as line_of_next, call_line_at, is_call as is_call_ahead, is_statement as is_statement_ahead};
+ghost use Rattle.c_text.specs.Statements.{set_at, pair_at, copy_at, abs_at, inverse_at, triple_at, add_at, sub_at, mul_at, step_call_at, test_at, table_used_at, load_at, call_at, own_counter_at, turns_at, header_at, line_ahead as line_of_next, loop_by, line_at, body_at, call_line_at, inside as inside_of, capped, is_call as is_call_ahead, is_statement as is_statement_ahead};
 
 use crate::number::{counter_number, table_number};
 use crate::parser::{Parser, syntax};
@@ -39,6 +39,32 @@ fn one_line(alloc: Global, line: u32) -> Result<Items<u32>, AllocError>
     let mut lines = Items::new(alloc);
     lines.push(line)?;
     Ok(lines)
+}
+
+fn sum_capped(count: u64, more: u64) -> u64
+    ensures { result ≡ capped (count + more) }
+{
+    count.saturating_add(more).min(CAP)
+}
+
+fn product_capped(count: u64, turns: u32) -> u64
+    ensures { result ≡ capped (count * turns) }
+{
+    count.saturating_mul(turns as u64).min(CAP)
+}
+
+impl Scope {
+    // The scope inside a loop of so many turns.
+    fn inside(&self, turns: u32) -> Scope
+        requires { self.now.depth < 4 }
+        ensures value { result ≡ inside_of self.now turns }
+        ensures deeper { result.depth ≡ self.now.depth + 1 }
+    {
+        let mut inner = *self;
+        inner.turns[self.depth as usize] = turns;
+        inner.depth = self.depth + 1;
+        inner
+    }
 }
 
 impl<'a> Parser<'a> {
@@ -288,10 +314,11 @@ impl<'a> Parser<'a> {
         }
     }
 
-    fn is_loop(&self, depth: u32) -> bool
-        ensures { result ≡ (nat_lt depth 4 && is_ahead (codes "for") (stream self.now)) }
+    // Whether a loop begins here, where there is room for one more inside one another.
+    fn is_loop(&self, room: u32) -> bool
+        ensures { result ≡ (nat_lt 0 room && is_ahead (codes "for") (stream self.now)) }
     {
-        depth < 4 && self.next_is(b"for")
+        room > 0 && self.next_is(b"for")
     }
 
     #[tactic(auto, unfolding(crate::specs::Statements::is_call))]
@@ -306,10 +333,10 @@ impl<'a> Parser<'a> {
     }
 
     // Whether a statement begins here.
-    fn is_statement(&self, depth: u32) -> bool
-        ensures { result ≡ is_statement_ahead (nat_lt depth 4) (stream self.now) }
+    fn is_statement(&self, room: u32) -> bool
+        ensures { result ≡ is_statement_ahead (nat_lt 0 room) (stream self.now) }
     {
-        self.is_call() || self.is_loop(depth)
+        self.is_call() || self.is_loop(room)
     }
 
     #[tactic(auto, unfolding(crate::specs::Statements::call_line_at))]
@@ -340,40 +367,42 @@ impl<'a> Parser<'a> {
         alloc: Global,
         scope: &Scope,
         tables: &[Items<Ratio>],
+        room: u32,
     ) -> Result<Line, ReadFault>
-        requires { scope.now.depth ≤ 4 }
+        requires { scope.now.depth + room ≡ 4 }
+        ensures read { Gives (λ x. x) result (stream self.new) (line_at room scope.now tables.now (stream self.old)) }
         ensures shorter { OnOk result (left self.new < left self.old) }
     {
-        if self.is_loop(scope.depth) {
-            return self.counted_loop(alloc, scope, tables);
+        if self.is_loop(room) {
+            return self.counted_loop(alloc, scope, tables, room - 1);
         }
         self.call_line(alloc, scope, tables)
     }
 
+    // A loop, inside which there may be this many loops inside one another.
     #[cycle(body)]
+    #[tactic(auto, unfolding(crate::specs::Statements::loop_by))]
     fn counted_loop(
         &mut self,
         alloc: Global,
         scope: &Scope,
         tables: &[Items<Ratio>],
+        room: u32,
     ) -> Result<Line, ReadFault>
-        requires { scope.now.depth < 4 }
+        requires { scope.now.depth + room ≡ 3 }
+        ensures read { Gives (λ x. x) result (stream self.new) (loop_by (body_at room) (line_of_next (stream self.old)) scope.now tables.now (stream self.old)) }
         ensures shorter { OnOk result (left self.new < left self.old) }
     {
-        let depth = scope.depth;
         let line = self.line_ahead();
-        let turns = self.header(depth)?;
-        let mut inner = *scope;
-        inner.turns[depth as usize] = turns;
-        inner.depth = depth + 1;
-        let body = self.body(alloc, &inner, tables)?;
-        self.expect(b"}")?;
-        let mut lines = one_line(alloc, line)?;
+        let turns = self.header(scope.depth)?;
+        let inner = scope.inside(turns);
         let Body {
             statements,
             lines: more,
             count,
-        } = body;
+        } = self.body(alloc, &inner, tables, room)?;
+        self.expect(b"}")?;
+        let mut lines = one_line(alloc, line)?;
         lines.append(more)?;
         Ok(Line {
             statement: CStmt::For {
@@ -381,26 +410,28 @@ impl<'a> Parser<'a> {
                 body: statements,
             },
             lines,
-            count: count.saturating_mul(turns as u64).min(CAP),
+            count: product_capped(count, turns),
         })
     }
 
-    /// Statements, as far as they go.
+    /// Statements, as far as they go, with at most this many loops inside one another.
     #[cycle(body)]
     pub fn body(
         &mut self,
         alloc: Global,
         scope: &Scope,
         tables: &[Items<Ratio>],
+        room: u32,
     ) -> Result<Body, ReadFault>
-        requires { scope.now.depth ≤ 4 }
+        requires { scope.now.depth + room ≡ 4 }
+        ensures read { Gives (λ x. x) result (stream self.new) (body_at room scope.now tables.now (stream self.old)) }
         ensures shorter { OnOk result (left self.new ≤ left self.old) }
     {
         let mut statements = Items::new(alloc);
         let mut lines = Items::new(alloc);
         let mut count: u64 = 0;
         'all: loop {
-            if !self.is_statement(scope.depth) {
+            if !self.is_statement(room) {
                 return Ok(Body {
                     statements,
                     lines,
@@ -411,10 +442,10 @@ impl<'a> Parser<'a> {
                 statement,
                 lines: more,
                 count: counted,
-            } = self.line(alloc, scope, tables)?;
+            } = self.line(alloc, scope, tables, room)?;
             statements.push(statement)?;
             lines.append(more)?;
-            count = count.saturating_add(counted).min(CAP);
+            count = sum_capped(count, counted);
         }
     }
 }
