@@ -5,8 +5,10 @@ use Rattle.c_unit.specs.declared.unit.CFun.{CFun}
 use Rattle.c_unit.specs.declared.unit.CUnit.{CUnit}
 use Rattle.c_unit.specs.Meaning.{ran, counted_list}
 use Rattle.kernel.specs.MassShare.{outcome, mass_outcome}
+use Rattle.kernel.specs.Straight.{IsStraight}
 
--- the function of the form `a`: its run on a cell gives the shares of the cell, or returns 1 or 2 exactly where they do not fit or the cell is flat
+-- the function of the form `a`: its run on a cell gives the shares of the cell, or returns 1 or 2 exactly where they do not fit or the cell is flat;
+-- it keeps within its arrays and makes at most 224 statements
 pub record IsMassFunction (c : Fraction) (f : CFun) : Type 0 where
   pub name : f.name ≡ codes "ffc_a"
   pub x : f.x ≡ 2
@@ -14,6 +16,7 @@ pub record IsMassFunction (c : Fraction) (f : CFun) : Type 0 where
   pub a : f.a ≡ 4
   pub share : (x₀ x₁ : Fraction) → outcome (ran f (x₀ ∷ x₁ ∷ []) []) ≡ mass_outcome c x₀ x₁
   pub bound : counted_list f.body ≤ 224
+  pub straight : IsStraight f
 
 -- this function alone
 abbrev pub IsMassUnit : Fraction → CUnit → Type 0

@@ -128,6 +128,22 @@ fn ends_as_the_worked_rows_say(rt: HostRuntime) -> Result<(), Fail> {
         (
             words,
             MASS,
+            "mesh 1 interval 2 1\n0\n1/85070591730234615865843651857942052864\n0 1\n",
+            7,
+            "",
+            "passed cell 0\n",
+        ),
+        (
+            words,
+            MASS,
+            "mesh 1 interval 3 2\n-1/18446744073709551616\n0\n1/36472996377170786403\n0 1\n1 2\n",
+            7,
+            "",
+            "passed entry 1 1\n",
+        ),
+        (
+            words,
+            MASS,
             "mesh 1 interval 2 1\n0\n2\n0 2\n",
             4,
             "",
