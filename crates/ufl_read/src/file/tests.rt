@@ -163,154 +163,212 @@ fn show_file(alloc: Global, text: &[u8]) -> Result<Vec<u8>, Fail> {
     Ok(out)
 }
 
-#[test]
-fn reads_statements_or_refuses(rt: HostRuntime) -> Result<(), Fail> {
-    let rows = [
-        ("", ""),
-        ("\n\n# c\n  \t\n", ""),
-        ("a = b\n", "1 a = b;"),
-        ("a = b", "1 a = b;"),
-        ("\n\na = b\nc = d", "3 a = b;4 c = d;"),
-        ("from ufl import *\n", "1 import;"),
-        ("ufl = from_", "1 ufl = from_;"),
-        ("a, b = c", "1 unpack a b = c;"),
-        ("x, = c", "1 unpack x = c;"),
-        ("(x) = c", "1 x = c;"),
-        ("(x, y,) = c", "1 unpack x y = c;"),
-        ("a += b\na -= b", "1 a += b;2 a -= b;"),
-        ("a = 1 + 2 - 3", "1 a = {1+2-3};"),
-        ("a = 1 + 2*3/4", "1 a = {1+{2*3/4}};"),
-        ("a = -u**2", "1 a = <-{u**2}>;"),
-        ("a = u**-2", "1 a = {u**<-2>};"),
-        ("a = u**v**w", "1 a = {u**{v**w}};"),
-        ("a = --u", "1 a = <-<-u>>;"),
-        ("a = +u*-v", "1 a = {<+u>*<-v>};"),
-        ("a = u - -v", "1 a = {u-<-v>};"),
-        ("a = -u.T", "1 a = <-{u.T}>;"),
-        ("a = u.T**2", "1 a = {{u.T}**2};"),
-        ("a = f()", "1 a = {f()};"),
-        ("a = f(x,)", "1 a = {f(x )};"),
-        ("a = f(x, y=2*z, w)", "1 a = {f(x y={2*z} w )};"),
-        ("a = f(x)(y)[z].n", "1 a = {f(x )(y )[z].n};"),
-        ("a = u[i, j]", "1 a = {u[(i j )]};"),
-        ("a = (u)", "1 a = u;"),
-        ("a = (u,)", "1 a = (u );"),
-        ("a = u,", "1 a = (u );"),
-        ("a = (u, v), w", "1 a = ((u v ) w );"),
-        ("a = []", "1 a = [];"),
-        ("a = [u,]", "1 a = [u ];"),
-        ("a = [u, (v, w)]", "1 a = [u (v w ) ];"),
-        ("a = '#', \"it's\"", "1 a = ('#' \"it's\" );"),
-        (
-            "a = 1., .5, 1e3, 1.5E-30, 10e+1",
-            "1 a = (1. .5 1e3 1.5E-30 10e+1 );",
-        ),
-        ("a = 1e1234", "Syntax 1"),
-        ("a = 1e", "Syntax 1"),
-        ("a = 1.dx", "Syntax 1"),
-        ("a = 1..dx", "1 a = {1..dx};"),
-        ("a = (b\n+ c)\n", "1 a = {b+c};"),
-        ("a = [b,\n\nc]\nd = e", "1 a = [b c ];4 d = e;"),
-        ("a = b \\\n+ c\n", "1 a = {b+c};"),
-        ("a = b \\\r\n+ c\r\nd = e\r\n", "1 a = {b+c};3 d = e;"),
-        ("\\\na = b", "2 a = b;"),
-        ("a = b # c \\\nd = e", "1 a = b;2 d = e;"),
-        ("a = (b # )\n)", "1 a = b;"),
-        ("a = b\\ \n", "Lex 1"),
-        ("a = b\n\\", "Lex 2"),
-        ("a = b \\# c\n+ d", "Lex 1"),
-        ("a = b\n\\\r\rc = d", "Lex 2"),
-        ("\na = (b\n$", "Lex 2"),
-        ("a = 'b\n'", "Lex 1"),
-        ("a = 'b\\n'", "Lex 1"),
-        ("a = \u{c}b", "Lex 1"),
-        ("\u{feff}a = b", "Lex 1"),
-        ("# \u{e9}\na = '\u{e9}'", "2 a = '\u{e9}';"),
-        ("a = \u{e9}", "Lex 1"),
-        ("a", "Syntax 1"),
-        ("a = \n", "Syntax 1"),
-        ("a = b\n= c", "Syntax 2"),
-        ("a = b c", "Syntax 1"),
-        ("a = ()", "Syntax 1"),
-        ("a = (b\n\nc", "Syntax 1"),
-        ("a = (b", "Syntax 1"),
-        ("a = b)", "Syntax 1"),
-        ("a = f(u.v=2)", "Syntax 1"),
-        ("a = f((u)=2)", "Syntax 1"),
-        ("from ufl import x", "Syntax 1"),
-        ("from dolfin import *", "Syntax 1"),
-        ("a[0] = c", "Syntax 1"),
-        ("a, b += c", "Syntax 1"),
-        ("a = b = c", "Syntax 1"),
-        ("a = u.2", "Syntax 1"),
-        ("a = u.(v)", "Syntax 1"),
-        ("a = lambda x: x", "Unsupported 1 lambda"),
-        ("import ufl", "Unsupported 1 import"),
-        ("a = b\nfrom ufl from", "Unsupported 2 from"),
-        ("a = x[0:1]", "Unsupported 1 :"),
-        ("a = x[...]", "Unsupported 1 ..."),
-        ("a = b not in c", "Unsupported 1 not"),
-        ("a = (b,\nnonlocal)", "Unsupported 1 nonlocal"),
-        ("None = print", "1 None = print;"),
-    ];
+// Statements and their lines.
+const STATEMENTS: [(&str, &str); 12] = [
+    ("", ""),
+    ("\n\n# c\n  \t\n", ""),
+    ("a = b\n", "1 a = b;"),
+    ("a = b", "1 a = b;"),
+    ("\n\na = b\nc = d", "3 a = b;4 c = d;"),
+    ("from ufl import *\n", "1 import;"),
+    ("ufl = from_", "1 ufl = from_;"),
+    ("a, b = c", "1 unpack a b = c;"),
+    ("x, = c", "1 unpack x = c;"),
+    ("(x) = c", "1 x = c;"),
+    ("(x, y,) = c", "1 unpack x y = c;"),
+    ("a += b\na -= b", "1 a += b;2 a -= b;"),
+];
+
+// Values, by every rule of the grammar.
+const VALUES: [(&str, &str); 20] = [
+    ("a = 1 + 2 - 3", "1 a = {1+2-3};"),
+    ("a = 1 + 2*3/4", "1 a = {1+{2*3/4}};"),
+    ("a = -u**2", "1 a = <-{u**2}>;"),
+    ("a = u**-2", "1 a = {u**<-2>};"),
+    ("a = u**v**w", "1 a = {u**{v**w}};"),
+    ("a = --u", "1 a = <-<-u>>;"),
+    ("a = +u*-v", "1 a = {<+u>*<-v>};"),
+    ("a = u - -v", "1 a = {u-<-v>};"),
+    ("a = -u.T", "1 a = <-{u.T}>;"),
+    ("a = u.T**2", "1 a = {{u.T}**2};"),
+    ("a = f()", "1 a = {f()};"),
+    ("a = f(x,)", "1 a = {f(x )};"),
+    ("a = f(x, y=2*z, w)", "1 a = {f(x y={2*z} w )};"),
+    ("a = f(x)(y)[z].n", "1 a = {f(x )(y )[z].n};"),
+    ("a = u[i, j]", "1 a = {u[(i j )]};"),
+    ("a = (u)", "1 a = u;"),
+    ("a = (u,)", "1 a = (u );"),
+    ("a = u,", "1 a = (u );"),
+    ("a = (u, v), w", "1 a = ((u v ) w );"),
+    ("a = []", "1 a = [];"),
+];
+
+// Strings, numbers, comments, and lines that are joined or end.
+const BYTES: [(&str, &str); 13] = [
+    ("a = [u,]", "1 a = [u ];"),
+    ("a = [u, (v, w)]", "1 a = [u (v w ) ];"),
+    ("a = '#', \"it's\"", "1 a = ('#' \"it's\" );"),
+    ("a = 1..dx", "1 a = {1..dx};"),
+    ("a = (b\n+ c)\n", "1 a = {b+c};"),
+    ("a = [b,\n\nc]\nd = e", "1 a = [b c ];4 d = e;"),
+    ("a = b \\\n+ c\n", "1 a = {b+c};"),
+    ("a = b \\\r\n+ c\r\nd = e\r\n", "1 a = {b+c};3 d = e;"),
+    ("\\\na = b", "2 a = b;"),
+    ("a = b # c \\\nd = e", "1 a = b;2 d = e;"),
+    ("a = (b # )\n)", "1 a = b;"),
+    ("# \u{e9}\na = '\u{e9}'", "2 a = '\u{e9}';"),
+    ("None = print", "1 None = print;"),
+];
+
+// Places where no token starts.
+const NO_TOKEN: [(&str, &str); 10] = [
+    ("a = b\\ \n", "Lex 1"),
+    ("a = b\n\\", "Lex 2"),
+    ("a = b \\# c\n+ d", "Lex 1"),
+    ("a = b\n\\\r\rc = d", "Lex 2"),
+    ("\na = (b\n$", "Lex 2"),
+    ("a = 'b\n'", "Lex 1"),
+    ("a = 'b\\n'", "Lex 1"),
+    ("a = \u{c}b", "Lex 1"),
+    ("\u{feff}a = b", "Lex 1"),
+    ("a = \u{e9}", "Lex 1"),
+];
+
+// Tokens that can not stand where they do.
+const REFUSED: [(&str, &str); 27] = [
+    ("a = 1e1234", "Syntax 1"),
+    ("a = 1e", "Syntax 1"),
+    ("a = 1.dx", "Syntax 1"),
+    ("a", "Syntax 1"),
+    ("a = \n", "Syntax 1"),
+    ("a = b\n= c", "Syntax 2"),
+    ("a = b c", "Syntax 1"),
+    ("a = ()", "Syntax 1"),
+    ("a = (b\n\nc", "Syntax 1"),
+    ("a = (b", "Syntax 1"),
+    ("a = b)", "Syntax 1"),
+    ("a = f(u.v=2)", "Syntax 1"),
+    ("a = f((u)=2)", "Syntax 1"),
+    ("from ufl import x", "Syntax 1"),
+    ("from dolfin import *", "Syntax 1"),
+    ("a[0] = c", "Syntax 1"),
+    ("a, b += c", "Syntax 1"),
+    ("a = b = c", "Syntax 1"),
+    ("a = u.2", "Syntax 1"),
+    ("a = u.(v)", "Syntax 1"),
+    ("a = lambda x: x", "Unsupported 1 lambda"),
+    ("import ufl", "Unsupported 1 import"),
+    ("a = b\nfrom ufl from", "Unsupported 2 from"),
+    ("a = x[0:1]", "Unsupported 1 :"),
+    ("a = x[...]", "Unsupported 1 ..."),
+    ("a = b not in c", "Unsupported 1 not"),
+    ("a = (b,\nnonlocal)", "Unsupported 1 nonlocal"),
+];
+
+// The text of the first row that reads otherwise.
+fn first_other<'a>(alloc: Global, rows: &[(&'a str, &'a str)]) -> Result<Option<&'a str>, Fail> {
     for (text, wanted) in rows {
-        let shown = show_file(rt.alloc(), text.as_bytes())?;
-        assert_eq!(rt; shown.as_slice(), wanted.as_bytes(), "{text}");
+        let shown = show_file(alloc, text.as_bytes())?;
+        if shown.as_slice() != wanted.as_bytes() {
+            return Ok(Some(*text));
+        }
     }
+    Ok(None)
+}
+
+#[test]
+fn reads_statements(rt: HostRuntime) -> Result<(), Fail> {
+    assert_eq!(rt; first_other(rt.alloc(), &STATEMENTS)?, None);
     Ok(())
 }
 
-fn repeated(alloc: Global, parts: [(&str, usize); 3]) -> Result<Vec<u8>, Fail> {
+#[test]
+fn reads_values(rt: HostRuntime) -> Result<(), Fail> {
+    assert_eq!(rt; first_other(rt.alloc(), &VALUES)?, None);
+    Ok(())
+}
+
+#[test]
+fn reads_bytes(rt: HostRuntime) -> Result<(), Fail> {
+    assert_eq!(rt; first_other(rt.alloc(), &BYTES)?, None);
+    Ok(())
+}
+
+#[test]
+fn refuses_what_is_no_token(rt: HostRuntime) -> Result<(), Fail> {
+    assert_eq!(rt; first_other(rt.alloc(), &NO_TOKEN)?, None);
+    Ok(())
+}
+
+#[test]
+fn refuses_tokens(rt: HostRuntime) -> Result<(), Fail> {
+    assert_eq!(rt; first_other(rt.alloc(), &REFUSED)?, None);
+    Ok(())
+}
+
+// What opens, what stands inside, what closes, how often, and whether that is too deep.
+const NESTED: [(&str, &str, &str, u32, bool); 17] = [
+    ("(", "u", ")", 64, false),
+    ("(", "u", ")", 65, true),
+    ("[", "", "]", 64, false),
+    ("[", "", "]", 65, true),
+    ("f(", "u", ")", 64, false),
+    ("f(", "u", ")", 65, true),
+    ("-", "u", "", 64, false),
+    ("-", "u", "", 65, true),
+    ("u**", "u", "", 64, false),
+    ("u**", "u", "", 65, true),
+    ("(-", "u", ")", 32, false),
+    ("(-u**", "-u", ")", 21, false),
+    ("(-u**", "--u", ")", 21, true),
+    ("(", "u-u", ")", 64, false),
+    ("(", "u.(u)", ")", 64, true),
+    ("-", "u.[u]", "", 64, true),
+    ("(u)+", "u", "", 1000, false),
+];
+
+fn nested(
+    alloc: Global,
+    open: &str,
+    inside: &str,
+    close: &str,
+    times: u32,
+) -> Result<Vec<u8>, Fail> {
     let mut text = Vec::from_slice(alloc, b"a = ")?;
-    for (part, times) in parts {
-        for _ in 0..times {
-            text.extend_from_slice(part.as_bytes())?;
-        }
+    for _ in 0..times {
+        put(&mut text, open.as_bytes());
+    }
+    put(&mut text, inside.as_bytes());
+    for _ in 0..times {
+        put(&mut text, close.as_bytes());
     }
     Ok(text)
 }
 
+fn is_too_deep(alloc: Global, text: &[u8]) -> bool {
+    match read_file(alloc, text) {
+        Ok(_) => false,
+        Err(refusal) => refusal.kind == FormKind::Deep,
+    }
+}
+
 #[test]
-fn counts_open_brackets_signs_and_powers(rt: HostRuntime) -> Result<(), Fail> {
-    let rows = [
-        ([("(", 64), ("u", 1), (")", 64)], false),
-        ([("(", 65), ("u", 1), (")", 65)], true),
-        ([("[", 64), ("", 0), ("]", 64)], false),
-        ([("[", 65), ("", 0), ("]", 65)], true),
-        ([("f(", 64), ("u", 1), (")", 64)], false),
-        ([("f(", 65), ("u", 1), (")", 65)], true),
-        ([("-", 64), ("u", 1), ("", 0)], false),
-        ([("-", 65), ("u", 1), ("", 0)], true),
-        ([("u**", 64), ("u", 1), ("", 0)], false),
-        ([("u**", 65), ("u", 1), ("", 0)], true),
-        ([("(-", 32), ("u", 1), (")", 32)], false),
-        ([("(-u**", 21), ("-u", 1), (")", 21)], false),
-        ([("(-u**", 21), ("--u", 1), (")", 21)], true),
-        ([("(", 64), ("u-u", 1), (")", 64)], false),
-        ([("(", 64), ("u.(u)", 1), (")", 64)], true),
-        ([("-", 64), ("u.[u]", 1), ("", 0)], true),
-        ([("(u)+", 1000), ("u", 1), ("", 0)], false),
-    ];
-    for (parts, is_deep) in rows {
-        let text = repeated(rt.alloc(), parts)?;
-        let kind = match read_file(rt.alloc(), text.as_slice()) {
-            Ok(_) => None,
-            Err(refusal) => Some(refusal.kind),
-        };
-        let wanted = if is_deep { Some(FormKind::Deep) } else { None };
-        assert_eq!(rt; kind, wanted);
+fn counts_what_is_open(rt: HostRuntime) -> Result<(), Fail> {
+    for (open, inside, close, times, wanted) in &NESTED {
+        let text = nested(rt.alloc(), open, inside, close, *times)?;
+        assert_eq!(rt; is_too_deep(rt.alloc(), text.as_slice()), *wanted);
     }
     Ok(())
 }
 
 #[test]
 fn refuses_long_files(rt: HostRuntime) -> Result<(), Fail> {
-    let mut text = Vec::new(rt.alloc());
-    for _ in 0..LIMIT {
-        text.push(b' ')?;
+    let mut text = nested(rt.alloc(), "", "b", "", 0)?;
+    for _ in 5..LIMIT {
+        put(&mut text, b" ");
     }
     assert!(rt; read_file(rt.alloc(), text.as_slice()).is_ok());
-    text.push(b' ')?;
+    put(&mut text, b" ");
     let shown = show_file(rt.alloc(), text.as_slice())?;
     assert_eq!(rt; shown.as_slice(), b"TooLong 0".as_slice());
     Ok(())
