@@ -1,8 +1,8 @@
 -- Derivatives, term by term
-use Rattle.std.proofs.Common.{max, ◌≡◌, ℕ, zero, suc, ◌+◌, ◌-◌, ◌^◌, ◌<◌, ◌≤◌, true, false, ◌||◌, ◌&&◌, nat_lt, is_none, Some, None, List, [], ◌∷◌, ◌++◌, refl, sym, ap, ◌∙◌, subst, arith, length}
+use Rattle.std.proofs.Common.{max, ◌≡◌, ℕ, zero, suc, ◌+◌, ◌-◌, ◌^◌, ◌<◌, ◌≤◌, true, false, ◌||◌, ◌&&◌, nat_lt, is_none, Some, None, List, [], ◌∷◌, ◌++◌, refl, sym, ap, ap₂, ◌∙◌, subst, arith, length}
 use Rattle.std.proofs.Math.ListN.{set}
 use Rattle.algebra.specs.Ring.{natural}
-use Rattle.algebra.specs.Fraction.{fractions, mul, mul_comm}
+use Rattle.algebra.specs.Fraction.{Fraction, fractions, mul, mul_comm}
 use Rattle.algebra.specs.RingLaws as L
 use Rattle.algebra.specs.Steps.{product}
 use Rattle.ratio.specs.declared.reduced.Ratio.{Ratio}
@@ -87,7 +87,7 @@ derived_begin k out all e p =
     subst (λ us. Derived k us all all) (sym e)
     (record { value = L.zero-add polynomials (derivative k (value_of all)); passes = refl; rising = p.sorted; there = tt; remain = p.terms; degree = omega arith })
 
-derivative-nil : (k : ℕ) → derivative k nil ≡ nil
+pub derivative-nil : (k : ℕ) → derivative k nil ≡ nil
 derivative-nil k = ap (derivative k) (sym constant-zero) ∙ derivative-constant k _
 
 no_less : (e : List ℕ) (k : ℕ) → exponent e k ≡ 0 → (i : ℕ) → exponent e i ≡ exponent e i - delta k i
@@ -98,12 +98,12 @@ no_less (x ∷ e) (suc k) h zero = nothing_less x
 no_less (x ∷ e) (suc k) h (suc i) = no_less e k h i
 
 -- a term without variable k
-vanishes : (k : ℕ) (t : Term) → exponent t.e k ≡ 0 → derivative k (term_value t) ≡ nil
-vanishes k t h =
-    monomial-derivative k (fraction_of t.c) t.e t.e (no_less t.e k h)
-    ∙ ap (λ n. monomial (mul (natural fractions n) (fraction_of t.c)) t.e) h
-    ∙ ap (λ c. monomial c t.e) (L.zero-mul fractions (fraction_of t.c))
-    ∙ monomial-zero t.e
+pub vanishes_monomial : (k : ℕ) (c : Fraction) (e : List ℕ) → exponent e k ≡ 0 → derivative k (monomial c e) ≡ nil
+vanishes_monomial k c e h =
+    monomial-derivative k c e e (no_less e k h) ∙ ap (λ n. monomial (mul (natural fractions n) c) e) h ∙ ap (λ x. monomial x e) (L.zero-mul fractions c) ∙ monomial-zero e
+
+pub vanishes : (k : ℕ) (t : Term) → exponent t.e k ≡ 0 → derivative k (term_value t) ≡ nil
+vanishes k t h = vanishes_monomial k (fraction_of t.c) t.e h
 
 test_first : (k : ℕ) (t : Term) (rest : List Term) → exponent t.e k ≡ 0 → derivative_passes k (t ∷ rest) ≡ derivative_passes k rest
 test_first k t rest h = ap (λ n. (nat_lt 0 n && is_none (product (fraction_of t.c) (natural fractions n))) || derivative_passes k rest) h
@@ -184,3 +184,19 @@ derived_lawful k out left all s =
 
 pub derived_degree : (k : ℕ) (out left all : List Term) → Derived k out left all → degree_of out ≤ degree_of all
 derived_degree k out left all s = omega (arith, s.degree)
+
+-- ---- no term has a variable of 3 or more
+pub nothing_beyond : (k : ℕ) → 3 ≤ k → (e : List ℕ) → length e ≡ 3 → exponent e k ≡ 0
+nothing_beyond zero h e three = absurd (omega arith)
+nothing_beyond (suc zero) h e three = absurd (omega arith)
+nothing_beyond (suc (suc zero)) h e three = absurd (omega arith)
+nothing_beyond (suc (suc (suc k))) h e three = by_three (λ e. exponent e (suc (suc (suc k))) ≡ 0) (λ x y z. refl) e three
+
+pub derived_beyond : (k : ℕ) (ts : List Term) → 3 ≤ k → AreTerms ts → derivative k (value_of ts) ≡ nil
+derived_beyond k [] h a = derivative-nil k
+derived_beyond k (t ∷ ts) h a =
+    derivative-plus k (term_value t) (value_of ts) ∙ ap₂ plus (vanishes k t (nothing_beyond k h t.e a.0.three)) (derived_beyond k ts h a.1) ∙ plus-nil nil
+
+pub passes_beyond : (k : ℕ) (ts : List Term) → 3 ≤ k → AreTerms ts → derivative_passes k ts ≡ false
+passes_beyond k [] h a = refl
+passes_beyond k (t ∷ ts) h a = test_first k t ts (nothing_beyond k h t.e a.0.three) ∙ passes_beyond k ts h a.1

@@ -20,7 +20,7 @@ use Rattle.calculus.proofs.ReferenceIntegrals.{interval_powers, triangle_powers,
 use Rattle.polyalg.specs.Exponents.{exponent}
 use Rattle.polyalg.specs.Small.{over}
 use Rattle.polyalg.specs.Terms.{term_value, value_of, AreTerms, IsPoly}
-use Rattle.polyalg.specs.ReferenceIntegral.{raised, factor_of, integral_from, integral_steps, VariablesBelow}
+use Rattle.polyalg.specs.ReferenceIntegral.{raised, factor_of, integral_from, integral_steps, VariablesBelow, factorials_of, by_factorials}
 use Rattle.polyalg.specs.declared.term.Term.{Term}
 use Rattle.polyalg.proofs.MonomialLaws.{monomial-times, monomial-scaled, constant_monomial, coordinate_0, coordinate_1, coordinate_2}
 use Rattle.polyalg.proofs.DerivedLaws.{by_three}
@@ -297,3 +297,45 @@ integral_done d h g ps items left r same none p v e =
     integral_value d h g ps zero_fraction r p.terms v (ap (integral_steps d) (sym same) ∙ sym e ∙ ap (integral_from d r) none)
     ∙ ap (λ q. plus q (shadow_integral d (reference d) (value_of ps))) constant-zero
     ∙ L.zero-add polynomials (shadow_integral d (reference d) (value_of ps))
+
+-- ---- the sum by factorials
+quotient_is : (f g : Fraction) (m n : ℕ) → 0 < n → mul f (W n) ≡ g → g ≡ W m → f ≡ over m n
+quotient_is f g m n h e k =
+    sym (mul_one f) ∙ ap (mul f) (sym (mul_inverse (W n) (not_nought n h))) ∙ sym (mul_assoc f (W n) (inverse (W n))) ∙ ap (λ x. mul x (inverse (W n))) (e ∙ k)
+
+factor_formula : (d : ℕ) → 1 ≤ d → (f : Fraction) (e : List ℕ) → length e ≡ 3 → factor_of d e ≡ Some f → f ≡ factorials_of d e
+factor_formula d h f e three =
+    by_three (λ e. factor_of d e ≡ Some f → f ≡ factorials_of d e)
+    (λ x y z k. quotient_is f _ _ (factorial (d + x + y + z)) (factorial_positive (d + x + y + z)) (factor_value d x y z f (factorial_positive d) k) (three_products (factorial x) (factorial y) (factorial z)))
+    e three
+
+pub integral_formula : (d : ℕ) → 1 ≤ d → (ts : List Term) (so_far r : Fraction) → AreTerms ts → integral_from d so_far ts ≡ Some r → r ≡ add so_far (by_factorials d ts)
+integral_formula d h [] so_far r a e =
+    let same : r ≡ so_far = cc in
+    same ∙ sym (add_zero so_far)
+integral_formula d h (t ∷ ts) so_far r a e = factor_case (factor_of d t.e) refl e (λ s k. integral_formula d h ts s r a.1 k) where
+  all : (f x s : Fraction) → factor_of d t.e ≡ Some f → x ≡ mul (fraction_of t.c) f → s ≡ add so_far x → r ≡ add s (by_factorials d ts) → r ≡ add so_far (by_factorials d (t ∷ ts))
+  all f x s ef ex es ih =
+      ih ∙ ap (λ y. add y (by_factorials d ts)) (es ∙ ap (add so_far) (ex ∙ ap (mul (fraction_of t.c)) (factor_formula d h f t.e a.0.three ef)))
+      ∙ fractions.add_assoc so_far (mul (fraction_of t.c) (factorials_of d t.e)) (by_factorials d ts)
+
+  sum_case : (f x : Fraction) → factor_of d t.e ≡ Some f → x ≡ mul (fraction_of t.c) f → (q : Option Fraction) → sum so_far x ≡ q
+      → option_and_then (λ s. integral_from d s ts) q ≡ Some r → ((s : Fraction) → integral_from d s ts ≡ Some r → r ≡ add s (by_factorials d ts)) → r ≡ add so_far (by_factorials d (t ∷ ts))
+  sum_case f x ef ex None k e ih = cc
+  sum_case f x ef ex (Some s) k e ih = all f x s ef ex (sum_is so_far x s k) (ih s e)
+
+  product_case : (f : Fraction) → factor_of d t.e ≡ Some f → (q : Option Fraction) → product (fraction_of t.c) f ≡ q
+      → option_and_then (λ x. option_and_then (λ s. integral_from d s ts) (sum so_far x)) q ≡ Some r → ((s : Fraction) → integral_from d s ts ≡ Some r → r ≡ add s (by_factorials d ts)) → r ≡ add so_far (by_factorials d (t ∷ ts))
+  product_case f ef None k e ih = cc
+  product_case f ef (Some x) k e ih = sum_case f x ef (product_is (fraction_of t.c) f x k) (sum so_far x) refl e ih
+
+  factor_case : (q : Option Fraction) → factor_of d t.e ≡ q
+      → option_and_then (λ f. option_and_then (λ x. option_and_then (λ s. integral_from d s ts) (sum so_far x)) (product (fraction_of t.c) f)) q ≡ Some r
+      → ((s : Fraction) → integral_from d s ts ≡ Some r → r ≡ add s (by_factorials d ts)) → r ≡ add so_far (by_factorials d (t ∷ ts))
+  factor_case None k e ih = cc
+  factor_case (Some f) k e ih = product_case f k (product (fraction_of t.c) f) refl e ih
+
+pub formula_done : (d : ℕ) → 1 ≤ d → (ps items left : List Term) (r : Fraction) → items ≡ ps → left ≡ [] → IsPoly ps
+    → integral_from d r left ≡ integral_steps d items → r ≡ by_factorials d ps
+formula_done d h ps items left r same none p e =
+    integral_formula d h ps zero_fraction r p.terms (ap (integral_steps d) (sym same) ∙ sym e ∙ ap (integral_from d r) none) ∙ L.zero-add fractions (by_factorials d ps)

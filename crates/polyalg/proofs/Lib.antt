@@ -9,3 +9,4 @@ pub mod IntegralLaws
 pub mod ZeroSum
 pub mod RowLaws
 pub mod ProductLaws
+pub mod Variables

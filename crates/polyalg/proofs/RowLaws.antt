@@ -137,7 +137,7 @@ unfolding coefficient_in monomial
 coefficient_in-monomial e c f =
     F.extended-mono (additive fractions) powers.exponents (additive fractions) (λ c f. cond (powers_eq f (powers_of e)) c zero_fraction) (coefficient_additive e) c (powers_of f)
 
-own : (e f : List ℕ) (c : Fraction) → f ≡ e → coefficient_in e (monomial c f) ≡ c
+pub own : (e f : List ℕ) (c : Fraction) → f ≡ e → coefficient_in e (monomial c f) ≡ c
 own e f c h =
     coefficient_in-monomial e c f
     ∙ ap (λ b. cond b c zero_fraction) (ap (λ g. powers_eq (powers_of g) (powers_of e)) h ∙ powers_eq_refl (powers_of e))
@@ -150,13 +150,13 @@ same_key e f h =
     let z : exponent f 2 ≡ exponent e 2 = sym (exponent_is f 2) ∙ ap (λ q. power_of q 2) p ∙ exponent_is e 2 in
     omega arith
 
-other : (e f : List ℕ) (c : Fraction) → (key f ≡ key e → ⊥) → coefficient_in e (monomial c f) ≡ zero_fraction
+pub other : (e f : List ℕ) (c : Fraction) → (key f ≡ key e → ⊥) → coefficient_in e (monomial c f) ≡ zero_fraction
 other e f c n = coefficient_in-monomial e c f ∙ go (powers_eq (powers_of f) (powers_of e)) refl where
   go : (b : Bool) → powers_eq (powers_of f) (powers_of e) ≡ b → cond b c zero_fraction ≡ zero_fraction
   go true h = absurd (n (same_key e f h))
   go false h = refl
 
-coefficient_in-nil : (e : List ℕ) → coefficient_in e nil ≡ zero_fraction
+pub coefficient_in-nil : (e : List ℕ) → coefficient_in e nil ≡ zero_fraction
 coefficient_in-nil e =
     S.zero_from_double (additive fractions) (coefficient_in e nil) (ap (coefficient_in e) (sym (plus-nil nil)) ∙ coefficient_in-plus e nil nil)
 

@@ -1,6 +1,6 @@
 -- The steps of the integral over a reference cell
-use Rattle.std.specs.Prelude.{◌≡◌, ℕ, zero, suc, ◌+◌, ◌≤◌, Option, Some, option_and_then, List, [], ◌∷◌}
-use Rattle.algebra.specs.Fraction.{Fraction, zero_fraction}
+use Rattle.std.specs.Prelude.{◌≡◌, ℕ, zero, suc, ◌+◌, ◌*◌, ◌≤◌, Option, Some, option_and_then, List, [], ◌∷◌}
+use Rattle.algebra.specs.Fraction.{Fraction, zero_fraction, add, mul}
 use Rattle.algebra.specs.Steps.{product, sum}
 use Rattle.calculus.specs.LocalFunction.{factorial}
 use Rattle.ratio.specs.Value.{fraction_of}
@@ -27,6 +27,16 @@ integral_from d total (t ∷ ts) =
 
 abbrev pub integral_steps : ℕ → List Term → Option Fraction
 integral_steps d ts = integral_from d zero_fraction ts
+
+-- a! b! c! / (d + a + b + c)!
+abbrev pub factorials_of : ℕ → List ℕ → Fraction
+factorials_of d e =
+    over (factorial (exponent e 0) * (factorial (exponent e 1) * factorial (exponent e 2))) (factorial (d + exponent e 0 + exponent e 1 + exponent e 2))
+
+-- the sum over the terms of their coefficients times that
+abbrev pub by_factorials : ℕ → List Term → Fraction
+by_factorials d [] = zero_fraction
+by_factorials d (t ∷ ts) = add (mul (fraction_of t.c) (factorials_of d t.e)) (by_factorials d ts)
 
 -- no variable at or above d occurs
 abbrev pub VariablesBelow : ℕ → List Term → Type 0

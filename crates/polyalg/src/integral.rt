@@ -8,7 +8,7 @@ ghost use Rattle.calculus.specs.Simplex.{reference};
 ghost use Rattle.calculus.specs.Integral.{shadow_integral};
 ghost use Rattle.polyalg.specs.Exponents.{total};
 ghost use Rattle.polyalg.specs.Terms.{value_of};
-ghost use Rattle.polyalg.specs.ReferenceIntegral.{raised, factor_of, integral_steps, VariablesBelow};
+ghost use Rattle.polyalg.specs.ReferenceIntegral.{raised, factor_of, integral_steps, VariablesBelow, by_factorials};
 
 use crate::poly::Poly;
 use crate::terms::quotient;
@@ -24,6 +24,7 @@ pub fn ref_integral(p: &Poly, d: u8) -> Option<Ratio>
     requires dimension { (1 ≤ d) × (d ≤ 3) }
     requires variables { VariablesBelow d p.now }
     ensures steps { valued result ≡ integral_steps d p.now }
+    ensures formula { IfSome result (λ r. fraction_of r ≡ by_factorials d p.now) }
     ensures value { IfSome result (λ r. constant (fraction_of r) ≡ shadow_integral d (reference d) (value_of p.now)) }
 {
     let mut total = Ratio::zero();
@@ -63,8 +64,7 @@ fn factorial(d: u8) -> u32
 
 /// The fraction times `i/(below + i)`, for i from 1 to n.
 fn raised(start: Ratio, below: u32, n: u32) -> Option<Ratio>
-    requires some { 0 < below }
-    requires fits { below + n < 2 ^ 32 }
+    requires { below + n < 2 ^ 32 }
     ensures { valued result ≡ raised below n (fraction_of start) }
 {
     let mut product = start;

@@ -1,12 +1,13 @@
 //! Polynomials as sorted lists of terms.
 
-ghost use Rattle.std.specs.Prelude.{◌≡◌, ◌+◌, ◌<◌, ◌≤◌, max, is_none, IfOk};
+ghost use Rattle.std.specs.Prelude.{◌≡◌, ℕ, ◌+◌, ◌<◌, ◌≤◌, max, is_none, IfOk};
 ghost use Rattle.ratio.specs.Value.{fraction_of};
 ghost use Rattle.calculus.specs.Polynomial.{nil, monomial, constant as constant_polynomial, coordinate, plus, times, derivative};
 ghost use Rattle.polyalg.specs.Terms.{value_of, IsPoly};
+ghost use Rattle.polyalg.specs.ReferenceIntegral.{VariablesBelow};
 ghost use Rattle.polyalg.specs.Products.{degree_of, product_steps};
 ghost use Rattle.polyalg.specs.Range.{product_passes, derivative_passes, sum_passes, RangeWhere};
-ghost use Rattle.polyalg.specs.Exponents.{total};
+ghost use Rattle.polyalg.specs.Exponents.{exponent, total};
 
 use crate::fault::PolyFault;
 use crate::product::multiplied;
@@ -50,6 +51,7 @@ impl Poly {
     pub fn constant(alloc: Global, c: Ratio) -> Result<Poly, AllocError>
         ensures value { IfOk result (λ p. value_of p ≡ constant_polynomial (fraction_of c)) }
         ensures degree { IfOk result (λ p. degree_of p ≡ 0) }
+        ensures variables { (d : ℕ) → IfOk result (VariablesBelow d) }
     {
         single(alloc, [0, 0, 0], c)
     }
@@ -59,6 +61,7 @@ impl Poly {
         requires { k < 3 }
         ensures value { IfOk result (λ p. value_of p ≡ coordinate k) }
         ensures degree { IfOk result (λ p. degree_of p ≤ 1) }
+        ensures variables { (d : ℕ) → k < d → IfOk result (VariablesBelow d) }
     {
         let e = match k {
             0 => [1, 0, 0],
@@ -73,6 +76,7 @@ impl Poly {
         ensures value { IfOk result (λ p. value_of p ≡ plus (value_of self.now) (value_of o.now)) }
         ensures range { RangeWhere (sum_passes self.now o.now) result }
         ensures degree { IfOk result (λ p. degree_of p ≤ max (degree_of self.now) (degree_of o.now)) }
+        ensures variables { (d : ℕ) → VariablesBelow d self.now → VariablesBelow d o.now → IfOk result (VariablesBelow d) }
     {
         let terms = merged(alloc, self.terms.as_slice(), o.terms.as_slice())?;
         Ok(Poly { terms })
@@ -85,6 +89,7 @@ impl Poly {
         ensures value { IfOk result (λ p. value_of p ≡ times (value_of self.now) (value_of o.now)) }
         ensures range { RangeWhere (is_none (product_steps nil self.now o.now)) result }
         ensures degree { IfOk result (λ p. degree_of p ≤ degree_of self.now + degree_of o.now) }
+        ensures variables { (d : ℕ) → VariablesBelow d self.now → VariablesBelow d o.now → IfOk result (VariablesBelow d) }
     {
         let terms = multiplied(alloc, self.terms.as_slice(), o.terms.as_slice())?;
         Ok(Poly { terms })
@@ -95,17 +100,19 @@ impl Poly {
         ensures value { IfOk result (λ p. value_of p ≡ times (constant_polynomial (fraction_of c)) (value_of self.now)) }
         ensures range { RangeWhere (product_passes (fraction_of c) self.now) result }
         ensures degree { IfOk result (λ p. degree_of p ≤ degree_of self.now) }
+        ensures variables { (d : ℕ) → VariablesBelow d self.now → IfOk result (VariablesBelow d) }
     {
         let terms = scaled(alloc, self.terms.as_slice(), c)?;
         Ok(Poly { terms })
     }
 
-    /// The partial derivative in variable k. `Range` exactly where the product of a coefficient with its exponent passes.
+    /// The partial derivative in variable k, which is 0 for k of 3 or more. `Range` exactly where the product of a coefficient
+    /// with its exponent passes.
     pub fn derive(&self, alloc: Global, k: u8) -> Result<Poly, PolyFault>
-        requires { k < 3 }
         ensures value { IfOk result (λ p. value_of p ≡ derivative k (value_of self.now)) }
         ensures range { RangeWhere (derivative_passes k self.now) result }
         ensures degree { IfOk result (λ p. degree_of p ≤ degree_of self.now) }
+        ensures variables { (d : ℕ) → VariablesBelow d self.now → IfOk result (VariablesBelow d) }
     {
         let terms = derived(alloc, self.terms.as_slice(), k)?;
         Ok(Poly { terms })
@@ -113,10 +120,11 @@ impl Poly {
 }
 
 /// The polynomial of one term.
-fn single(alloc: Global, e: [u32; 3], c: Ratio) -> Result<Poly, AllocError>
+pub fn single(alloc: Global, e: [u32; 3], c: Ratio) -> Result<Poly, AllocError>
     requires { total e ≤ 65535 }
     ensures value { IfOk result (λ p. value_of p ≡ monomial (fraction_of c) e) }
     ensures degree { IfOk result (λ p. degree_of p ≤ total e) }
+    ensures variables { (d : ℕ) → ((i : ℕ) → d ≤ i → exponent e i ≡ 0) → IfOk result (VariablesBelow d) }
 {
     let mut terms = Vec::new(alloc);
     if c.is_zero() {

@@ -1,10 +1,11 @@
 //! Products of sorted lists of terms.
 
-ghost use Rattle.std.specs.Prelude.{◌≡◌, ◌+◌, ◌≤◌, IfOk, is_none};
+ghost use Rattle.std.specs.Prelude.{◌≡◌, ℕ, ◌+◌, ◌≤◌, IfOk, is_none};
 ghost use Rattle.calculus.specs.Polynomial.{nil, times};
 ghost use Rattle.polyalg.specs.Exponents.{total};
 ghost use Rattle.polyalg.specs.Terms.{value_of, IsTerm, IsPoly};
 ghost use Rattle.polyalg.specs.Range.{row_passes, RangeWhere};
+ghost use Rattle.polyalg.specs.ReferenceIntegral.{VariablesBelow};
 ghost use Rattle.polyalg.specs.Products.{degree_of, product_steps};
 ghost use Rattle.polyalg.specs.Row.{IsRow};
 
@@ -22,6 +23,7 @@ pub fn multiplied(alloc: Global, left: &[Term], right: &[Term]) -> Result<Vec<Te
     ensures range { RangeWhere (is_none (product_steps nil left.now right.now)) result }
     ensures lawful { IfOk result (λ v. IsPoly v.items) }
     ensures degree { IfOk result (λ v. degree_of v.items ≤ degree_of left.now + degree_of right.now) }
+    ensures variables { (d : ℕ) → VariablesBelow d left.now → VariablesBelow d right.now → IfOk result (λ v. VariablesBelow d v.items) }
 {
     let mut all = Vec::new(alloc);
     for term in left {

@@ -1,9 +1,10 @@
 //! Multiples and derivatives, term by term.
 
-ghost use Rattle.std.specs.Prelude.{◌≡◌, ◌<◌, ◌≤◌, IfOk};
+ghost use Rattle.std.specs.Prelude.{◌≡◌, ℕ, ◌≤◌, IfOk};
 ghost use Rattle.ratio.specs.Value.{fraction_of};
 ghost use Rattle.calculus.specs.Polynomial.{constant, times, derivative};
 ghost use Rattle.polyalg.specs.Terms.{value_of, IsPoly};
+ghost use Rattle.polyalg.specs.ReferenceIntegral.{VariablesBelow};
 ghost use Rattle.polyalg.specs.Products.{degree_of};
 ghost use Rattle.polyalg.specs.Range.{product_passes, derivative_passes, RangeWhere};
 
@@ -20,6 +21,7 @@ pub fn scaled(alloc: Global, terms: &[Term], c: Ratio) -> Result<Vec<Term>, Poly
     ensures range { RangeWhere (product_passes (fraction_of c) terms.now) result }
     ensures lawful { IfOk result (λ v. IsPoly v.items) }
     ensures degree { IfOk result (λ v. degree_of v.items ≤ degree_of terms.now) }
+    ensures variables { (d : ℕ) → VariablesBelow d terms.now → IfOk result (λ v. VariablesBelow d v.items) }
 {
     let mut out = Vec::new(alloc);
     for term in terms {
@@ -37,16 +39,19 @@ pub fn scaled(alloc: Global, terms: &[Term], c: Ratio) -> Result<Vec<Term>, Poly
     Ok(out)
 }
 
-/// The partial derivative in variable k, term by term.
+/// The partial derivative in variable k, term by term. No term has a variable of 3 or more.
 pub fn derived(alloc: Global, terms: &[Term], k: u8) -> Result<Vec<Term>, PolyFault>
-    requires variable { k < 3 }
-    requires lawful { IsPoly terms.now }
+    requires { IsPoly terms.now }
     ensures value { IfOk result (λ v. value_of v.items ≡ derivative k (value_of terms.now)) }
     ensures range { RangeWhere (derivative_passes k terms.now) result }
     ensures lawful { IfOk result (λ v. IsPoly v.items) }
     ensures degree { IfOk result (λ v. degree_of v.items ≤ degree_of terms.now) }
+    ensures variables { (d : ℕ) → VariablesBelow d terms.now → IfOk result (λ v. VariablesBelow d v.items) }
 {
     let mut out = Vec::new(alloc);
+    if k >= 3 {
+        return Ok(out);
+    }
     for term in terms {
         let n = term.e[k as usize];
         if n == 0 {

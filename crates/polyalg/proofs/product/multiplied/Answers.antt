@@ -6,6 +6,7 @@ use Rattle.std.proofs.lemmas.List.{drop_all}
 use Rattle.polyalg.specs.Terms.{value_of, IsPoly}
 use Rattle.polyalg.proofs.ScaledLaws.{first_left}
 use Rattle.polyalg.proofs.ProductLaws.{product_begin, next_lawful, product_step, row_refused, sum_refused, product_value, product_fits, range_on, range_residual}
+use Rattle.polyalg.proofs.Variables.{product_variables}
 use Rattle.polyalg.proofs.product.multiplied.Goals as goal
 
 pub loop-term-init : goal.loop-term-init
@@ -50,3 +51,6 @@ returns-clause-value c = product_value c.loop-term.all.items _ c.args.left.now c
 
 pub returns-clause-range : goal.returns-clause-range
 returns-clause-range c = product_fits c.loop-term.all.items _ c.args.left.now c.args.right.now (drop_all c.loop-term.term-index c.args.left.now c.loop-term-test.false) c.loop-term.invariant
+
+pub returns-clause-variables : goal.returns-clause-variables
+returns-clause-variables c d h g = product_variables d c.args.left.now c.args.right.now _ c.loop-term.invariant.lawful (returns-clause-value c) h g

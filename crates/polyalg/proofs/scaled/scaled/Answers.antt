@@ -2,6 +2,7 @@ use Rattle.ratio.specs.Value.{fraction_of}
 use Rattle.std.proofs.lemmas.List.{drop_all}
 use Rattle.polyalg.proofs.StepLaws.{answer_of, no_answer_of}
 use Rattle.polyalg.proofs.ScaledLaws.{first_left, scaled_begin, scaled_step, scaled_fails, scaled_value, scaled_passes, scaled_lawful, scaled_degree}
+use Rattle.polyalg.proofs.Variables.{scaled_variables}
 use Rattle.polyalg.proofs.scaled.scaled.Goals as goal
 
 pub loop-term-init : goal.loop-term-init
@@ -31,3 +32,6 @@ returns-clause-lawful c = scaled_lawful (fraction_of c.args.c) _ _ c.args.terms.
 
 pub returns-clause-degree : goal.returns-clause-degree
 returns-clause-degree c = scaled_degree (fraction_of c.args.c) _ _ c.args.terms.now c.loop-term.invariant
+
+pub returns-clause-variables : goal.returns-clause-variables
+returns-clause-variables c d h = scaled_variables d (fraction_of c.args.c) c.args.terms.now _ (returns-clause-lawful c) (returns-clause-value c) h
