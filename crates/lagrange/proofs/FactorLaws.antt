@@ -1,5 +1,5 @@
 -- The factors of a basis function
-use Rattle.std.proofs.Common.{◌≡◌, ℕ, zero, suc, ◌-◌, ◌<◌, ◌≤◌, true, false, List, [], ◌∷◌, length, get_or, refl, sym, ap, ap₂, ◌∙◌, arith}
+use Rattle.std.proofs.Common.{◌≡◌, ℕ, zero, suc, ◌+◌, ◌-◌, ◌<◌, ◌≤◌, true, false, List, [], ◌∷◌, length, get_or, refl, sym, ap, ap₂, ◌∙◌, arith}
 use Rattle.algebra.specs.Ring.{natural}
 use Rattle.algebra.specs.RingLaws as L
 use Rattle.algebra.specs.Solver.{at, ◌⊗◌, unity}
@@ -7,7 +7,7 @@ use Rattle.algebra.specs.Sound as Solve
 use Rattle.algebra.specs.Fraction.{Fraction, fractions, zero_fraction, one_fraction, add_zero, mul, mul_one, mul_comm, inverse, negative as minus_fraction}
 use Rattle.calculus.specs.Polynomial.{Polynomial, one, plus, times, negative, constant, coordinate, whole, polynomials}
 use Rattle.calculus.specs.Simplex.{is_less}
-use Rattle.calculus.specs.LocalFunction.{factorial, falling, vertex_factor}
+use Rattle.calculus.specs.LocalFunction.{factorial, degree_of, falling, vertex_factor}
 use Rattle.calculus.proofs.PolynomialLaws.{constant-one, constant-zero, constant-negative}
 use Rattle.calculus.proofs.Barycentric.{coordinate_sum, basis_coordinate}
 use Rattle.calculus.proofs.LocalFunctions.{factors_of}
@@ -98,3 +98,11 @@ product_is q b ws o p1 p2 p3 p4 f n oe fe e1 e2 e3 e4 =
 -- the factor of a vertex that the polynomial is multiplied by
 pub with_factor_is : (q j d a : ℕ) (p b f r : Polynomial) → r ≡ times p f → f ≡ vertex_factor q b a → b ≡ basis_coordinate d j → r ≡ times p (vertex_factor q (basis_coordinate d j) a)
 with_factor_is q j d a p b f r re fe be = re ∙ ap (times p) (fe ∙ ap (λ x. vertex_factor q x a) be)
+
+pub four_sum : (ws : List ℕ) → length ws ≡ 4 → degree_of ws ≡ get_or ws 0 0 + get_or ws 1 0 + get_or ws 2 0 + get_or ws 3 0
+four_sum [] e = absurd (omega arith)
+four_sum (x ∷ []) e = absurd (omega arith)
+four_sum (x ∷ y ∷ []) e = absurd (omega arith)
+four_sum (x ∷ y ∷ z ∷ []) e = absurd (omega arith)
+four_sum (x ∷ y ∷ z ∷ w ∷ []) e = omega arith
+four_sum (x ∷ y ∷ z ∷ w ∷ v ∷ vs) e = absurd (omega arith)

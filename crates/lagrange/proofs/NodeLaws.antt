@@ -17,7 +17,7 @@ use Rattle.lagrange.specs.Nodes.{nodes_of, padded, zeros}
 abbrev pub is_node : Cell → ℕ → List ℕ → Bool
 is_node c q w = length w == suc (dimension c) && degree_of w == q
 
-by_degree : (P : ℕ → Type 0) → P 0 → P 1 → P 2 → P 3 → (q : ℕ) → q ≤ 3 → P q
+pub by_degree : (P : ℕ → Type 0) → P 0 → P 1 → P 2 → P 3 → (q : ℕ) → q ≤ 3 → P q
 by_degree P a b c d zero h = a
 by_degree P a b c d (suc zero) h = b
 by_degree P a b c d (suc (suc zero)) h = c
@@ -42,7 +42,7 @@ length-padded_all (w ∷ ws) = ap suc (length-padded_all ws)
 pub table_length : (c : Cell) (q n : ℕ) (ws : List (List ℕ)) → q ≤ 3 → n < node_count c q → ws ≡ map padded (nodes_of c q) → n < length ws
 table_length c q n ws h g e = omega (arith, node_number c q h, length-padded_all (nodes_of c q), ap length e)
 
-both_true : (a b : Bool) → (a && b) ≡ true → (a ≡ true) × (b ≡ true)
+pub both_true : (a b : Bool) → (a && b) ≡ true → (a ≡ true) × (b ≡ true)
 both_true true b h = (refl, h)
 both_true false b h = cc
 
@@ -90,6 +90,11 @@ dimension_few Interval = omega arith
 dimension_few Triangle = omega arith
 dimension_few Tetrahedron = omega arith
 
+pub dimension_range : (c : Cell) → (1 ≤ dimension c) × (dimension c ≤ 3)
+dimension_range Interval = (omega arith, omega arith)
+dimension_range Triangle = (omega arith, omega arith)
+dimension_range Tetrahedron = (omega arith, omega arith)
+
 pub padded_four : (c : Cell) (q : ℕ) (w : List ℕ) → Node c q w → length (padded w) ≡ 4
 padded_four c q w n = omega (arith, length-behind w (zeros (4 - length w)), length-zeros (4 - length w), n.vertices, dimension_few c)
 
@@ -112,7 +117,7 @@ factors-behind : (q : ℕ) (b : ℕ → Polynomial) (j n : ℕ) (ws : List ℕ) 
 factors-behind q b j n [] = factors-zeros q b j n
 factors-behind q b j n (w ∷ ws) = ap (times (vertex_factor q (b j) w)) (factors-behind q b (suc j) n ws)
 
-on_reference : (c : Cell) (w : List ℕ) → factors_of (degree_of w) (basis_coordinate (dimension c)) 0 w ≡ local_function (reference (dimension c)) w
+pub on_reference : (c : Cell) (w : List ℕ) → factors_of (degree_of w) (basis_coordinate (dimension c)) 0 w ≡ local_function (reference (dimension c)) w
 on_reference Interval w = sym (reference_function (reference 1) tt w)
 on_reference Triangle w = sym (reference_function (reference 2) tt w)
 on_reference Tetrahedron w = sym (reference_function (reference 3) tt w)

@@ -1,13 +1,15 @@
 //! Basis functions, by Silvester's formula.
 
-ghost use Rattle.std.specs.Prelude.{◌≡◌, ◌+◌, ◌<◌, ◌≤◌, [], length, IfOk, slice_index_or};
-ghost use Rattle.calculus.specs.Polynomial.{times};
+ghost use Rattle.std.specs.Prelude.{◌≡◌, ◌≢◌, ℕ, ◌+◌, ◌<◌, ◌≤◌, [], length, IfOk, slice_index_or};
+ghost use Rattle.algebra.specs.Fraction.{one_fraction, zero_fraction};
+ghost use Rattle.calculus.specs.Polynomial.{times, value};
 ghost use Rattle.calculus.specs.Simplex.{reference};
-ghost use Rattle.calculus.specs.LocalFunction.{degree_of as weight_sum, local_function, vertex_factor, factorial};
+ghost use Rattle.calculus.specs.LocalFunction.{degree_of as weight_sum, local_function, node_point, vertex_factor, factorial};
 ghost use Rattle.calculus.proofs.Barycentric.{basis_coordinate};
 ghost use Rattle.calculus.proofs.LocalFunctions.{factors_of};
 ghost use Rattle.polyalg.specs.Terms.{value_of};
 ghost use Rattle.polyalg.specs.Products.{degree_of};
+ghost use Rattle.polyalg.specs.ReferenceIntegral.{VariablesBelow};
 ghost use Rattle.spaces.specs.Cell.{dimension};
 ghost use Rattle.spaces.specs.Family.{node_count};
 ghost use Rattle.lagrange.specs.Nodes.{nodes_of};
@@ -21,11 +23,17 @@ use std::alloc::{AllocError, Global};
 /// The basis function of a local node on the reference cell: the product over the vertices of `(1/a!)` times the factors
 /// `q*b - m` for m below a, with q the degree, a the weight of the node at the vertex and b the vertex's barycentric coordinate.
 ///
-/// The numbers stay so small that no step of it passes: want of memory is the only refusal.
+/// It is 1 at its node and 0 at the other nodes of its degree. The numbers stay so small that no step of it passes: want of
+/// memory is the only refusal.
 pub fn basis(alloc: Global, cell: Cell, degree: u8, node: u8) -> Result<Poly, AllocError>
     requires degree { degree ≤ 3 }
     requires node { node < node_count cell degree }
-    ensures { IfOk result (λ p. value_of p ≡ local_function (reference (dimension cell)) (slice_index_or (nodes_of cell degree) node [])) }
+    ensures function { IfOk result (λ p. value_of p ≡ local_function (reference (dimension cell)) (slice_index_or (nodes_of cell degree) node [])) }
+    ensures own { 0 < degree → IfOk result (λ p. value (node_point (slice_index_or (nodes_of cell degree) node [])) (value_of p) ≡ one_fraction) }
+    ensures others { (k : ℕ) → k < node_count cell degree → k ≢ node →
+        IfOk result (λ p. value (node_point (slice_index_or (nodes_of cell degree) k [])) (value_of p) ≡ zero_fraction) }
+    ensures degree { IfOk result (λ p. degree_of p ≤ degree) }
+    ensures variables { IfOk result (VariablesBelow (dimension cell)) }
 {
     let at = weights(cell, degree)[node as usize];
     match product(alloc, cell.dim(), degree, at) {
@@ -40,7 +48,9 @@ fn product(alloc: Global, d: u8, q: u8, weights: [u8; 4]) -> Result<Poly, PolyFa
     requires few { q ≤ 3 }
     requires sum { weight_sum weights ≤ q }
     requires four { length weights ≡ 4 }
-    ensures { IfOk result (λ p. value_of p ≡ factors_of q (basis_coordinate d) 0 weights) }
+    ensures value { IfOk result (λ p. value_of p ≡ factors_of q (basis_coordinate d) 0 weights) }
+    ensures degree { IfOk result (λ p. degree_of p ≤ weight_sum weights) }
+    ensures variables { IfOk result (VariablesBelow d) }
 {
     let one = Poly::constant(alloc, Ratio::one())?;
     let first = with_factor(alloc, &one, d, q, 0, weights[0])?;
@@ -65,6 +75,7 @@ fn with_factor(
     requires degree { degree_of others.now ≤ 12 }
     ensures value { IfOk result (λ p. value_of p ≡ times (value_of others.now) (vertex_factor q (basis_coordinate d j) weight)) }
     ensures degree { IfOk result (λ p. degree_of p ≤ degree_of others.now + weight) }
+    ensures variables { VariablesBelow d others.now → IfOk result (VariablesBelow d) }
 {
     let b = coordinate(alloc, d, j)?;
     let f = factor(alloc, &b, q, weight)?;
@@ -78,6 +89,7 @@ fn coordinate(alloc: Global, d: u8, j: u8) -> Result<Poly, PolyFault>
     requires vertex { j ≤ 3 }
     ensures value { IfOk result (λ p. value_of p ≡ basis_coordinate d j) }
     ensures degree { IfOk result (λ p. degree_of p ≤ 1) }
+    ensures variables { IfOk result (VariablesBelow d) }
 {
     if j == 0 {
         return corner(alloc, d);
@@ -95,6 +107,7 @@ fn corner(alloc: Global, d: u8) -> Result<Poly, PolyFault>
     requires { d ≤ 3 }
     ensures value { IfOk result (λ p. value_of p ≡ basis_coordinate d 0) }
     ensures degree { IfOk result (λ p. degree_of p ≤ 1) }
+    ensures variables { IfOk result (VariablesBelow d) }
 {
     let mut sum = Poly::constant(alloc, Ratio::zero())?;
     for k in 0..d {
@@ -113,6 +126,7 @@ fn factor(alloc: Global, coordinate: &Poly, q: u8, a: u8) -> Result<Poly, PolyFa
     requires degree { degree_of coordinate.now ≤ 1 }
     ensures value { IfOk result (λ p. value_of p ≡ vertex_factor q (value_of coordinate.now) a) }
     ensures degree { IfOk result (λ p. degree_of p ≤ a) }
+    ensures variables { (d : ℕ) → VariablesBelow d coordinate.now → IfOk result (VariablesBelow d) }
 {
     let scaled = coordinate.scale(alloc, whole(q as u32))?;
     let mut product = Poly::constant(alloc, Ratio::one())?;

@@ -3,7 +3,11 @@
 #![tactic(auto)]
 
 mod functions;
+pub mod laws;
 mod node_tables;
 
 pub use functions::basis;
 pub use node_tables::{nodes, weights};
+
+#[cfg(test)]
+mod tests;

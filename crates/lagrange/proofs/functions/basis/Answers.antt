@@ -1,10 +1,14 @@
-use Rattle.std.proofs.Common.{[], length, get_or, ap, ◌∙◌, arith}
-use Rattle.calculus.specs.LocalFunction.{degree_of}
+use Rattle.std.proofs.Common.{◌≡◌, [], length, get_or, ap, ◌∙◌, subst, arith}
+use Rattle.calculus.specs.LocalFunction.{degree_of, local_function}
 use Rattle.calculus.proofs.Barycentric.{basis_coordinate}
 use Rattle.calculus.proofs.LocalFunctions.{factors_of}
 use Rattle.polyalg.specs.Terms.{value_of}
+use Rattle.polyalg.specs.ReferenceIntegral.{VariablesBelow}
 use Rattle.lagrange.specs.Nodes.{nodes_of}
 use Rattle.lagrange.proofs.NodeLaws.{table_length, node_at, entry_at, padded_sum, padded_four, basis_is}
+use Rattle.calculus.specs.Simplex.{reference}
+use Rattle.spaces.specs.Cell.{dimension}
+use Rattle.lagrange.proofs.NodeValues.{own_value, other_value}
 use Rattle.lagrange.proofs.functions.basis.Goals as goal
 
 pub bounds-weights-node : goal.bounds-weights-node
@@ -23,9 +27,30 @@ product-requires-clause-four c =
     ap length (entry_at c.args.cell c.args.degree c.args.node c.weights.result.now [] c.requires.degree c.requires.node c.weights.ensures)
     ∙ padded_four c.args.cell c.args.degree (get_or (nodes_of c.args.cell c.args.degree) c.args.node []) (node_at c.args.cell c.args.degree c.args.node c.requires.degree c.requires.node)
 
-pub returns-in-Ok : goal.returns-in-Ok
-returns-in-Ok c =
+function_is : (c : goal.In-Ok) → value_of c.in-Ok.function ≡ local_function (reference (dimension c.args.cell)) (get_or (nodes_of c.args.cell c.args.degree) c.args.node [])
+function_is c =
     basis_is c.args.cell c.args.degree (get_or (nodes_of c.args.cell c.args.degree) c.args.node []) (get_or c.weights.result.now c.args.node []) (value_of c.in-Ok.function)
     (node_at c.args.cell c.args.degree c.args.node c.requires.degree c.requires.node)
     (entry_at c.args.cell c.args.degree c.args.node c.weights.result.now [] c.requires.degree c.requires.node c.weights.ensures)
-    (c.in-Ok.ensures ∙ ap (λ d. factors_of c.args.degree (basis_coordinate d) 0 (get_or c.weights.result.now c.args.node [])) c.dim.ensures)
+    (c.in-Ok.ensures.value ∙ ap (λ d. factors_of c.args.degree (basis_coordinate d) 0 (get_or c.weights.result.now c.args.node [])) c.dim.ensures)
+
+pub returns-in-Ok-clause-function : goal.returns-in-Ok-clause-function
+returns-in-Ok-clause-function c = function_is c
+
+pub returns-in-Ok-clause-own : goal.returns-in-Ok-clause-own
+returns-in-Ok-clause-own c = own_value c.args.cell c.args.degree c.args.node (value_of c.in-Ok.function) c.requires.degree c.requires.node (function_is c)
+
+pub returns-in-Ok-clause-others : goal.returns-in-Ok-clause-others
+returns-in-Ok-clause-others c k l apart = other_value c.args.cell c.args.degree c.args.node k (value_of c.in-Ok.function) c.requires.degree c.requires.node (function_is c) l apart
+
+-- the weights add up to the degree
+weights_add : (c : goal.In-Ok) → degree_of (get_or c.weights.result.now c.args.node []) ≡ c.args.degree
+weights_add c =
+    ap degree_of (entry_at c.args.cell c.args.degree c.args.node c.weights.result.now [] c.requires.degree c.requires.node c.weights.ensures)
+    ∙ padded_sum c.args.cell c.args.degree (get_or (nodes_of c.args.cell c.args.degree) c.args.node []) (node_at c.args.cell c.args.degree c.args.node c.requires.degree c.requires.node)
+
+pub returns-in-Ok-clause-degree : goal.returns-in-Ok-clause-degree
+returns-in-Ok-clause-degree c = omega (arith, c.in-Ok.ensures.degree, weights_add c)
+
+pub returns-in-Ok-clause-variables : goal.returns-in-Ok-clause-variables
+returns-in-Ok-clause-variables c = subst (λ d. VariablesBelow d c.in-Ok.function) c.dim.ensures c.in-Ok.ensures.variables

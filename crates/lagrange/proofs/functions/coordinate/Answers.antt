@@ -14,3 +14,6 @@ returns-then-j-d-clause-value c = c.in_ok-one.ensures.value ∙ ap constant c.on
 
 pub returns-clause-value : goal.returns-clause-value
 returns-clause-value c = c.in_ok-variable.ensures.value ∙ sym (within_is c.args.d c.args.j (omega (arith, c.if-j-eq0.false)) (omega (arith, c.if-j-d.false)))
+
+pub returns-then-j-d-clause-variables : goal.returns-then-j-d-clause-variables
+returns-then-j-d-clause-variables c = c.in_ok-one.ensures.variables c.args.d
