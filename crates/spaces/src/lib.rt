@@ -19,3 +19,6 @@ pub use element_tree::ElementTree;
 pub use family::{Family, node_count};
 pub use parts::{Part, Parts};
 pub use refusal::SpaceRefusal;
+
+#[cfg(test)]
+mod tests;
