@@ -3,7 +3,7 @@ use Rattle.std.specs.Prelude.{◌≡◌, ◌≢◌, ◌⊎◌, ◌<◌, ◌≤�
 use Rattle.ends.specs.Count.{Rises}
 use Rattle.ends.specs.Told.{appended, TakesPrefix}
 use Rattle.std.specs.List.{AllByRecursion}
-use Rattle.algebra.specs.Fraction.{Fraction, one_fraction}
+use Rattle.algebra.specs.Fraction.{Fraction}
 use Rattle.ends.specs.Held.{Held, bytes_of}
 use Rattle.spaces.specs.declared.cell.Cell.TheVariants.{Interval}
 use Rattle.mesh_in.specs.MeshData.{MeshData}
@@ -15,7 +15,7 @@ use Rattle.assembly.specs.Rows.{row_of}
 use Rattle.kernel.specs.MassShare.{Passes, Flat}
 use Rattle.form_values.specs.FormValues.{AreTriples}
 use Rattle.form_values.specs.Shares.{IsFine, BecomesFirst, share_entries}
-use Rattle.ffc.specs.FormFile.{first_form, parting_line}
+use Rattle.ffc.specs.FormFile.{IsForm, IsNoForm, IsOff}
 use Rattle.ffc.specs.Outcome.{degenerate}
 use Rattle.ffc.specs.Text.{matrix_text}
 use Rattle.ffc.specs.declared.outcome.FormKind.{FormKind}
@@ -81,10 +81,14 @@ IsText (Some files) name text = bytes_of files name ≡ Some text
 abbrev pub form_limit : ℕ
 form_limit = 262144
 
--- when a form is refused: it is too long, or else parts from the one that can be compiled in this line
+-- when a form is refused: it is too long, or else no form that can be compiled, and this line isn't as it is required
 abbrev pub FormCause : FormKind → ℕ → List ℕ → Type 0
 FormCause form.TooLong line text = (form_limit < length text) × (line ≡ 0)
-FormCause form.NotYet line text = (length text ≤ form_limit) × (text ≢ first_form) × (line ≡ parting_line text)
+FormCause form.NotYet line text = (length text ≤ form_limit) × IsNoForm text × IsOff line text
+
+-- the file is a form with this factor, which can be compiled
+abbrev pub HasForm : Option (List Held) → List ℕ → Fraction → Type 0
+HasForm content name c = (text : List ℕ) × IsText content name text × IsForm text c
 
 -- the text stands for a mesh of intervals
 abbrev pub IsIntervals : List ℕ → MeshData Fraction → Type 0
@@ -98,25 +102,25 @@ IsWrongCell text r = (m : MeshData Fraction) × (meaning text ≡ Ok m) × (m.ki
 abbrev pub MeshCause : MeshRefusal → List ℕ → Type 0
 MeshCause r text = (meaning text ≡ Err r) ⊎ IsWrongCell text r
 
--- the form can be compiled, and the mesh is one of intervals
-abbrev pub Accepted : Option (List Held) → List ℕ → List ℕ → MeshData Fraction → Type 0
-Accepted content form mesh m = IsText content form first_form × ((text : List ℕ) × IsText content mesh text × IsIntervals text m)
+-- the form has this factor, and the mesh is one of intervals
+abbrev pub Accepted : Option (List Held) → List ℕ → List ℕ → Fraction → MeshData Fraction → Type 0
+Accepted content form mesh c m = HasForm content form c × ((text : List ℕ) × IsText content mesh text × IsIntervals text m)
 
--- why the mesh of intervals has no matrix
-abbrev pub RunCause : Option (List Held) → List ℕ → List ℕ → (MeshData Fraction → Type 0) → Type 0
-RunCause content form mesh Is = (m : MeshData Fraction) × Accepted content form mesh m × Is m
+-- why the form has no matrix on the mesh of intervals
+abbrev pub RunCause : Option (List Held) → List ℕ → List ℕ → (Fraction → MeshData Fraction → Type 0) → Type 0
+RunCause content form mesh Is = (c : Fraction) × (m : MeshData Fraction) × Accepted content form mesh c m × Is c m
 
 -- this is the first cell without shares, since its ends are the same point
-abbrev pub IsFlatFirst : ℕ → MeshData Fraction → Type 0
-IsFlatFirst cell m = BecomesFirst m one_fraction cell Flat
+abbrev pub IsFlatFirst : ℕ → Fraction → MeshData Fraction → Type 0
+IsFlatFirst cell c m = BecomesFirst m c cell Flat
 
 -- this is the first cell without shares, since a number in them does not fit
-abbrev pub PassesFirstOn : ℕ → MeshData Fraction → Type 0
-PassesFirstOn cell m = BecomesFirst m one_fraction cell Passes
+abbrev pub PassesFirstOn : ℕ → Fraction → MeshData Fraction → Type 0
+PassesFirstOn cell c m = BecomesFirst m c cell Passes
 
 -- all cells have their shares, and this is the first entry whose shares, cells in order, can't be added up
-abbrev pub PassesFirstAt : ℕ → ℕ → MeshData Fraction → Type 0
-PassesFirstAt row col m = AllByRecursion (IsFine m one_fraction) m.cells × PassesFirst (share_entries m one_fraction) row col
+abbrev pub PassesFirstAt : ℕ → ℕ → Fraction → MeshData Fraction → Type 0
+PassesFirstAt row col c m = AllByRecursion (IsFine m c) m.cells × PassesFirst (share_entries m c) row col
 
 abbrev pub SpotCause : Option (List Held) → List ℕ → List ℕ → Spot → Type 0
 SpotCause content form mesh (spot.Cell cell) = RunCause content form mesh (PassesFirstOn cell)
@@ -136,7 +140,7 @@ MeshFits content name _ = Unit {0}
 abbrev pub Cause : Option (List Held) → List ℕ → List ℕ → Outcome → Type 0
 Cause content form mesh (Form r) = (text : List ℕ) × IsText content form text × FormCause r.kind r.line text
 Cause content form mesh (Mesh r) =
-    (IsText content form first_form × ((text : List ℕ) × IsText content mesh text × MeshCause r text))
+    ((c : Fraction) × HasForm content form c × ((text : List ℕ) × IsText content mesh text × MeshCause r text))
     ⊎ ((cell : ℕ) × (r ≡ degenerate cell) × RunCause content form mesh (IsFlatFirst cell))
 Cause content form mesh (Passed s) = SpotCause content form mesh s
 Cause content form mesh Done = Unit {0}
@@ -152,12 +156,12 @@ row_count m = row_of m.cells (length m.points)
 -- the text of the matrix of the form on the mesh
 abbrev pub IsAnswer : Option (List Held) → List ℕ → List ℕ → List ℕ → Type 0
 IsAnswer content form mesh text =
-    (m : MeshData Fraction) × (entries : List Entry) × Accepted content form mesh m × AllByRecursion (IsFine m one_fraction) m.cells × AreTriples m one_fraction entries
+    (c : Fraction) × (m : MeshData Fraction) × (entries : List Entry) × Accepted content form mesh c m × AllByRecursion (IsFine m c) m.cells × AreTriples m c entries
     × (text ≡ matrix_text (codes "a") (row_count m) (row_count m) entries)
 
--- the form can be compiled, and the text is the canonical one of its unit
+-- the text is the canonical one of the unit of the form with its factor
 abbrev pub IsUnitText : Option (List Held) → List ℕ → List ℕ → Type 0
-IsUnitText content form text = IsText content form first_form × ((u : CUnit) × IsMassUnit one_fraction u × (text ≡ canonical u))
+IsUnitText content form text = (c : Fraction) × HasForm content form c × ((u : CUnit) × IsMassUnit c u × (text ≡ canonical u))
 
 -- when each outcome comes where the form alone is named
 abbrev pub CompileCause : Option (List Held) → List ℕ → Outcome → Type 0

@@ -3,15 +3,16 @@ ghost use Rattle.std.specs.Prelude.{◌≡◌, ◌≢◌, ◌↔◌, ℕ, List, 
 ghost use Rattle.ends.specs.Count.{Rises};
 ghost use Rattle.ends.specs.Told.{appended, TakesPrefix};
 ghost use Rattle.mesh_in.specs.MeshData.{IsMesh, fractions};
-ghost use Rattle.ffc.specs.FormFile.{first_form};
+ghost use Rattle.ratio.specs.Value.{fraction_of};
+ghost use Rattle.kernel.specs.MassShare.{IsSmallFactor};
 ghost use Rattle.ffc.specs.Words.{HaveNoShape, texts};
 ghost use Rattle.ffc.specs.Command.{words_of};
 ghost use Rattle.ffc.specs.Lines.{Says};
-ghost use Rattle.ffc.specs.Answer.{Wrote, ReadFaultCounts, FormRefused, MeshRefused, AssembleRefused, IsText, IsIntervals, FormFits, MeshFits, Cause, IsAnswer, IsUnitText, AnswersWords, HasCause, IsRefusal};
+ghost use Rattle.ffc.specs.Answer.{Wrote, ReadFaultCounts, FormRefused, MeshRefused, AssembleRefused, IsText, IsIntervals, HasForm, FormFits, MeshFits, Cause, IsAnswer, IsUnitText, AnswersWords, HasCause, IsRefusal};
 ghost use Rattle.spaces.specs.declared.cell.Cell.TheVariants.{Interval};
 
 use crate::command::{Command, read_command};
-use crate::form_file::parting_line;
+use crate::form_file::read_form;
 use crate::lines::put_outcome;
 use crate::loading::{FORM_LIMIT, MESH_LIMIT, load};
 use crate::matrix::{mass_matrix, mass_unit};
@@ -29,9 +30,10 @@ use std::alloc::Global;
 // The name of the form.
 const FORM_NAME: &str = "a";
 
-// Loads the form, which is the one that can be compiled.
-fn load_form<F: Files>(alloc: Global, files: &mut F, name: &str) -> Result<(), Outcome>
-    ensures ok { OnOk result (IsText (F.content files.old) name.now first_form) }
+// Loads a form that can be compiled, and gives its factor.
+fn load_form<F: Files>(alloc: Global, files: &mut F, name: &str) -> Result<Ratio, Outcome>
+    ensures form { IfOk result (λ c. HasForm (F.content files.old) name.now (fraction_of c)) }
+    ensures small { IfOk result (λ c. IsSmallFactor (fraction_of c)) }
     ensures kept { (F.content files.new ≡ F.content files.old) × OnOk result (F.faults files.new ≡ F.faults files.old) }
     ensures cause { IfErr result (FormFits (F.content files.old) name.now) }
     ensures err { IfErr result (FormRefused name.now (F.faults files.old) (F.faults files.new) (F.last_failed files.new)) }
@@ -41,9 +43,9 @@ fn load_form<F: Files>(alloc: Global, files: &mut F, name: &str) -> Result<(), O
         let kind = FormKind::TooLong;
         return Err(Outcome::Form(FormRefusal { kind, line: 0 }));
     }
-    match parting_line(text.as_slice()) {
-        None => Ok(()),
-        Some(line) => {
+    match read_form(text.as_slice()) {
+        Ok(factor) => Ok(factor),
+        Err(line) => {
             let kind = FormKind::NotYet;
             Err(Outcome::Form(FormRefusal { kind, line }))
         }
@@ -103,9 +105,9 @@ fn assemble<F: Files>(
     ensures cause { IfErr result (Cause (F.content files.old) form.now mesh.now) }
     ensures err { IfErr result (AssembleRefused form.now mesh.now (F.faults files.old) (F.faults files.new) (F.last_failed files.new)) }
 {
-    load_form(alloc, files, form)?;
+    let factor = load_form(alloc, files, form)?;
     let mesh = load_mesh(alloc, files, mesh)?;
-    let triples = mass_matrix(alloc, Ratio::one(), &mesh)?;
+    let triples = mass_matrix(alloc, factor, &mesh)?;
     let rows = Rows::new(alloc, &mesh)?.count;
     let mut text = Vec::new(alloc);
     push_matrix(&mut text, FORM_NAME, rows, rows, triples.as_slice())?;
@@ -118,8 +120,8 @@ fn compile<F: Files>(alloc: Global, files: &mut F, form: &str) -> Result<Vec<u8>
     ensures cause { IfErr result (FormFits (F.content files.old) form.now) }
     ensures err { IfErr result (FormRefused form.now (F.faults files.old) (F.faults files.new) (F.last_failed files.new)) }
 {
-    load_form(alloc, files, form)?;
-    let unit = mass_unit(alloc, Ratio::one())?;
+    let factor = load_form(alloc, files, form)?;
+    let unit = mass_unit(alloc, factor)?;
     let mut text = Vec::new(alloc);
     print_unit(&unit, &mut text)?;
     Ok(text)

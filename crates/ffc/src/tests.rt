@@ -15,6 +15,12 @@ v = TestFunction(V)
 a = u*v*dx
 ";
 
+// The first three lines of a form, and the front of the fourth.
+const OPENING: &str = "V = FiniteElement(\"Lagrange\", interval, 1)
+u = TrialFunction(V)
+v = TestFunction(V)
+a = ";
+
 const TWO: &str = "mesh 1 interval 2 1\n0\n2\n0 1\n";
 
 const UNIT: &str = "#include \"fr.h\"
@@ -38,6 +44,78 @@ int ffc_a(const fr *X, const fr *W, fr *A)
 ";
 
 const MATRIX: &str = "form a rank 2 rows 2 columns 2\n0 0 2/3\n0 1 1/3\n1 0 1/3\n1 1 2/3\n";
+
+const ZEROS: &str = "form a rank 2 rows 2 columns 2\n";
+
+const HALVES: &str = "form a rank 2 rows 2 columns 2\n0 0 1/3\n0 1 1/6\n1 0 1/6\n1 1 1/3\n";
+
+const NOT_YET_4: &str = "form line 4 refusal 16 NotYet\n";
+
+const NOT_YET_5: &str = "form line 5 refusal 16 NotYet\n";
+
+// What stands behind `a = `, what the program writes of it on the interval from 0 to 2, and its line on err.
+const FACTORS: [(&str, &str, &str); 28] = [
+    (
+        "3*u*v*dx\n",
+        "form a rank 2 rows 2 columns 2\n0 0 2\n0 1 1\n1 0 1\n1 1 2\n",
+        "",
+    ),
+    ("0*u*v*dx\n", ZEROS, ""),
+    ("0.0e-7*u*v*dx\n", ZEROS, ""),
+    ("1.*u*v*dx\n", MATRIX, ""),
+    (".5*u*v*dx\n", HALVES, ""),
+    ("00.50*u*v*dx\n", HALVES, ""),
+    (
+        "1e3*u*v*dx\n",
+        "form a rank 2 rows 2 columns 2\n0 0 2000/3\n0 1 1000/3\n1 0 1000/3\n1 1 2000/3\n",
+        "",
+    ),
+    (
+        "1e-3*u*v*dx\n",
+        "form a rank 2 rows 2 columns 2\n0 0 1/1500\n0 1 1/3000\n1 0 1/3000\n1 1 1/1500\n",
+        "",
+    ),
+    (
+        "1E+02*u*v*dx\n",
+        "form a rank 2 rows 2 columns 2\n0 0 200/3\n0 1 100/3\n1 0 100/3\n1 1 200/3\n",
+        "",
+    ),
+    (
+        "3301173438094347399730997930*u*v*dx\n",
+        "form a rank 2 rows 2 columns 2\n0 0 6602346876188694799461995860/3\n0 1 3301173438094347399730997930/3\n1 0 3301173438094347399730997930/3\n1 1 6602346876188694799461995860/3\n",
+        "",
+    ),
+    (
+        "1e-27*u*v*dx\n",
+        "form a rank 2 rows 2 columns 2\n0 0 1/1500000000000000000000000000\n0 1 1/3000000000000000000000000000\n1 0 1/3000000000000000000000000000\n1 1 1/1500000000000000000000000000\n",
+        "",
+    ),
+    ("3301173438094347399730997931*u*v*dx\n", "", NOT_YET_4),
+    ("1e-28*u*v*dx\n", "", NOT_YET_4),
+    (
+        "170141183460469231731687303715884105727*u*v*dx\n",
+        "",
+        NOT_YET_4,
+    ),
+    (
+        "170141183460469231731687303715884105728*u*v*dx\n",
+        "",
+        NOT_YET_4,
+    ),
+    ("3e1234*u*v*dx\n", "", NOT_YET_4),
+    ("-3*u*v*dx\n", "", NOT_YET_4),
+    ("1/2*u*v*dx\n", "", NOT_YET_4),
+    ("3 *u*v*dx\n", "", NOT_YET_4),
+    ("3* u*v*dx\n", "", NOT_YET_4),
+    ("*u*v*dx\n", "", NOT_YET_4),
+    ("2*3*u*v*dx\n", "", NOT_YET_4),
+    ("3*u*v*dx", "", NOT_YET_4),
+    ("3*u*v*dx\r\n", "", NOT_YET_4),
+    ("3\n*u*v*dx\n", "", NOT_YET_4),
+    ("3*u*v*dx\n\n", "", NOT_YET_5),
+    ("3*u*v*dx\nmore", "", NOT_YET_5),
+    ("u*v*dx\na = u*v*dx\n", "", NOT_YET_5),
+];
 
 // A call of the program: its words, the files `form` and `mesh`, and the first put that fails.
 #[derive(Clone, Copy)]
@@ -109,6 +187,22 @@ fn ends_as_the_worked_rows_say(rt: HostRuntime) -> Result<(), Fail> {
         ("assemble none a mesh -", MASS, TWO, 8, "", "read fault 1\n"),
         ("assemble form a none -", MASS, TWO, 8, "", "read fault 2\n"),
         (words, "", TWO, 3, "", "form line 1 refusal 16 NotYet\n"),
+        (
+            words,
+            "V = FiniteElement(\"Lagrange\", interval, 1)\n",
+            TWO,
+            3,
+            "",
+            "form line 2 refusal 16 NotYet\n",
+        ),
+        (
+            words,
+            "V = FiniteElement(\"Lagrange\", interval, 1)\nu = TrialFunction(V)\nv = TestFunction(V)",
+            TWO,
+            3,
+            "",
+            "form line 3 refusal 16 NotYet\n",
+        ),
         (
             words,
             "V = FiniteElement(\"Lagrange\", interval, 1)\nu = TrialFunction(V)\nv = TestFunction(V)\na = u*u*dx\n",
@@ -196,9 +290,32 @@ fn a_fault_of_writing_leaves_a_prefix(rt: HostRuntime) -> Result<(), Fail> {
     Ok(())
 }
 
+fn form_text(alloc: Global, tail: &str) -> Result<String, AllocError> {
+    let mut text = String::from_str(alloc, OPENING)?;
+    text.push_str(tail)?;
+    Ok(text)
+}
+
+#[test]
+fn a_number_is_the_factor(rt: HostRuntime) -> Result<(), Fail> {
+    for (tail, out, err) in FACTORS {
+        let form = form_text(rt.alloc(), tail)?;
+        let call = Call {
+            words: "assemble form a mesh -",
+            form: form.as_str(),
+            mesh: TWO,
+            fail: None,
+        };
+        let left = run(rt.alloc(), &call)?;
+        assert_eq!(rt; left.out.bytes(), out.as_bytes());
+        assert_eq!(rt; left.err.bytes(), err.as_bytes());
+    }
+    Ok(())
+}
+
 // What the function of a unit's text gives on an interval: its local tensor, or how the run ended.
-fn local_tensor(alloc: Global, text: &str, ends: [i128; 2]) -> Result<Vec<u8>, Fail> {
-    let read = match read_unit(alloc, text.as_bytes()) {
+fn local_tensor(alloc: Global, text: &[u8], ends: [i128; 2]) -> Result<Vec<u8>, Fail> {
+    let read = match read_unit(alloc, text) {
         Ok(read) => read,
         Err(_) => return Ok(Vec::from_slice(alloc, b"refused")?),
     };
@@ -233,7 +350,29 @@ fn the_printed_kernel_is_read_back_and_runs(rt: HostRuntime) -> Result<(), Fail>
         ([i128::MIN + 1, i128::MAX], "passed"),
     ];
     for (ends, tensor) in table {
-        let left = local_tensor(rt.alloc(), UNIT, ends)?;
+        let left = local_tensor(rt.alloc(), UNIT.as_bytes(), ends)?;
+        assert_eq!(rt; left.as_slice(), tensor.as_bytes());
+    }
+    Ok(())
+}
+
+#[test]
+fn the_printed_kernel_has_the_factor(rt: HostRuntime) -> Result<(), Fail> {
+    let table = [
+        ("3*u*v*dx\n", "2 1 1 2 "),
+        ("0*u*v*dx\n", "0 0 0 0 "),
+        ("1e-3*u*v*dx\n", "1/1500 1/3000 1/3000 1/1500 "),
+    ];
+    for (tail, tensor) in table {
+        let form = form_text(rt.alloc(), tail)?;
+        let call = Call {
+            words: "compile form",
+            form: form.as_str(),
+            mesh: TWO,
+            fail: None,
+        };
+        let printed = run(rt.alloc(), &call)?;
+        let left = local_tensor(rt.alloc(), printed.out.bytes(), [0, 2])?;
         assert_eq!(rt; left.as_slice(), tensor.as_bytes());
     }
     Ok(())

@@ -1,14 +1,10 @@
-use Rattle.std.proofs.Common.{◌≡◌, ◌∙◌, ap, subst, List, ℕ, Option, map, codes}
+use Rattle.std.proofs.Common.{◌≡◌, ap, subst, List, ℕ, Option, map, codes}
 use Rattle.std.proofs.lemmas.Result.{err_from_is_err_and}
 use Rattle.ends.specs.Held.{Held}
 use Rattle.mesh_in.specs.MeshData.{fractions}
+use Rattle.ratio.specs.Value.{fraction_of}
 use Rattle.assembly.specs.Kept.{seen}
 use Rattle.ffc.specs.Answer.{IsText, Accepted}
-use Rattle.std.specs.List.{AllByRecursion}
-use Rattle.algebra.specs.Fraction.{Fraction}
-use Rattle.form_values.specs.FormValues.{AreTriples}
-use Rattle.form_values.specs.Shares.{IsFine, Refuses}
-use Rattle.ffc.proofs.FactorLaws.{one_is_small}
 use Rattle.ffc.proofs.AnswerLaws.{run_cause, answer_text, rows_are}
 use Rattle.ffc.proofs.program.assemble.Goals as goal
 
@@ -16,24 +12,22 @@ pub returns-in_err-triples-clause-cause : goal.returns-in_err-triples-clause-cau
 returns-in_err-triples-clause-cause g c =
     let t = c.in_ok-mesh.ensures.ok in
     let P : Option (List Held) → Type 0 = λ k. IsText k c.args.mesh.now t.0 in
-    let a : Accepted (g.F.Files.content c.args.files.now) c.args.form.now c.args.mesh.now (fractions c.in_ok-mesh.mesh) =
-    (c.in_ok-load_form.ensures.ok, (t.0, subst P c.in_ok-load_form.ensures.kept.0 t.1, t.2)) in
+    let a : Accepted (g.F.Files.content c.args.files.now) c.args.form.now c.args.mesh.now (fraction_of c.in_ok-factor.factor) (fractions c.in_ok-mesh.mesh) =
+    (c.in_ok-factor.ensures.form, (t.0, subst P c.in_ok-factor.ensures.kept.0 t.1, t.2)) in
     let p = err_from_is_err_and c.from_residual-in_err-triples.result c.from_residual-in_err-triples.ensures.1 in
-    rw (p.1, p.2) (run_cause (g.F.Files.content c.args.files.now) c.args.form.now c.args.mesh.now (fractions c.in_ok-mesh.mesh) c.in_err-triples.field-0.0 a (subst (λ (x : Fraction). Refuses (fractions c.in_ok-mesh.mesh) x c.in_err-triples.field-0.0) c.one.ensures c.in_err-triples.ensures.refusal))
+    rw (p.1, p.2) (run_cause (g.F.Files.content c.args.files.now) c.args.form.now c.args.mesh.now (fraction_of c.in_ok-factor.factor) (fractions c.in_ok-mesh.mesh) c.in_err-triples.field-0.0 a c.in_err-triples.ensures.refusal)
 
 pub returns-clause-ok : goal.returns-clause-ok
 returns-clause-ok g c =
     let t = c.in_ok-mesh.ensures.ok in
     let P : Option (List Held) → Type 0 = λ k. IsText k c.args.mesh.now t.0 in
-    let a : Accepted (g.F.Files.content c.args.files.now) c.args.form.now c.args.mesh.now (fractions c.in_ok-mesh.mesh) =
-    (c.in_ok-load_form.ensures.ok, (t.0, subst P c.in_ok-load_form.ensures.kept.0 t.1, t.2)) in (
+    let a : Accepted (g.F.Files.content c.args.files.now) c.args.form.now c.args.mesh.now (fraction_of c.in_ok-factor.factor) (fractions c.in_ok-mesh.mesh) =
+    (c.in_ok-factor.ensures.form, (t.0, subst P c.in_ok-factor.ensures.kept.0 t.1, t.2)) in (
+      fraction_of c.in_ok-factor.factor,
       fractions c.in_ok-mesh.mesh,
       map seen c.in_ok-triples.triples.items,
       a,
-      subst (λ (x : Fraction). AllByRecursion (IsFine (fractions c.in_ok-mesh.mesh) x) c.in_ok-mesh.mesh.cells) c.one.ensures c.in_ok-triples.ensures.fine,
-      subst (λ (x : Fraction). AreTriples (fractions c.in_ok-mesh.mesh) x (map seen c.in_ok-triples.triples.items)) c.one.ensures c.in_ok-triples.ensures.triples,
+      c.in_ok-triples.ensures.fine,
+      c.in_ok-triples.ensures.triples,
       answer_text c.new-text.result.items c.push_matrix.new.text.items (codes "a") c.in_ok-rows.field-0.count _ _ _ c.in_ok-push_matrix.ensures c.new-text.ensures.items (rows_are c.in_ok-mesh.mesh c.in_ok-rows.field-0.count c.in_ok-rows.ensures.count) (ap (map seen) c.as_slice.ensures.value),
     )
-
-pub mass_matrix-requires-clause-factor : goal.mass_matrix-requires-clause-factor
-mass_matrix-requires-clause-factor g c = one_is_small _ c.one.ensures
