@@ -2,6 +2,7 @@ pub mod SinkLaws
 pub mod MatrixLaws
 pub mod FactorLaws
 pub mod FormLaws
+pub mod HeaderLaws
 pub mod WordsLaws
 pub mod TextLaws
 pub mod LoadLaws

@@ -5,7 +5,9 @@ use Rattle.std.proofs.lemmas.Bool.{lt-leb}
 use Rattle.algebra.specs.Fraction.{Fraction}
 use Rattle.ends.specs.Held.{Held}
 use Rattle.mesh_in.specs.MeshText.{meaning, longest}
-use Rattle.mesh_in.specs.Refusal.{out_of_memory}
+use Rattle.mesh_in.specs.MeshData.{MeshData}
+use Rattle.mesh_in.specs.Refusal.{out_of_memory, refusal}
+use Rattle.mesh_in.proofs.ReadingLemmas.{long_text}
 use Rattle.mesh_in.specs.declared.refusal.MeshKind.{MeshKind}
 use Rattle.mesh_in.specs.declared.refusal.MeshKind.TheVariants as kind
 use Rattle.mesh_in.specs.declared.refusal.MeshRefusal.{MeshRefusal}
@@ -24,6 +26,9 @@ whole text bytes n e h =
     let g : length text ≤ n + 1 = omega (arith, f) in
     sym e ∙ take_all (n + 1) text g
 
+pub at_most : (text bytes : List ℕ) (n : ℕ) → take (n + 1) text ≡ bytes → length bytes ≤ n + 1
+at_most text bytes n e = let f : length bytes ≡ min (n + 1) (length text) = ap length (sym e) ∙ length-take (n + 1) text in omega (arith, f)
+
 size : (n : ℕ) (xs : List ℕ) → (length xs ≤ n) ⊎ (n < length xs)
 size n xs = grind arith
 
@@ -39,6 +44,17 @@ same_meaning text bytes e =
     let b : nat_le (length text) longest ≡ false = lt-leb _ _ k in
     rw (a, b) refl)
     (size longest bytes)
+
+-- a text with a mesh is none that is too long
+pub mesh_whole : (text bytes : List ℕ) (m : MeshData Fraction) → take (longest + 1) text ≡ bytes → meaning bytes ≡ Ok m → bytes ≡ text
+mesh_whole text bytes m e is =
+    ⊎_elim
+    (λ (h : length bytes ≤ longest). whole text bytes longest e h)
+    (λ (h : longest < length bytes). absurd (apart m (refusal kind.TooLong 0) (sym is ∙ long_text bytes h)))
+    (size longest bytes)
+  where
+    apart : (m : MeshData Fraction) (r : MeshRefusal) → Ok m ≡ Err r → ⊥
+    apart m r k = cc
 
 by_kind : (content : Option (List Held)) (name text : List ℕ) (r : MeshRefusal) (k : MeshKind) → IsText content name text → meaning text ≡ Err r → MeshFits content name (outcome_of_kind k r)
 by_kind content name text r kind.TooLong t e = (text, t, inl e)

@@ -16,6 +16,7 @@ use Rattle.kernel.specs.MassShare.{Passes, Flat}
 use Rattle.form_values.specs.FormValues.{AreTriples}
 use Rattle.form_values.specs.Shares.{IsFine, BecomesFirst, share_entries}
 use Rattle.ffc.specs.FormFile.{IsForm, IsNoForm, IsOff}
+use Rattle.ffc.specs.Header.{header_line}
 use Rattle.ffc.specs.Outcome.{degenerate}
 use Rattle.ffc.specs.Text.{matrix_text}
 use Rattle.ffc.specs.declared.outcome.FormKind.{FormKind}
@@ -94,9 +95,9 @@ HasForm content name c = (text : List ℕ) × IsText content name text × IsForm
 abbrev pub IsIntervals : List ℕ → MeshData Fraction → Type 0
 IsIntervals text m = (meaning text ≡ Ok m) × (m.kind ≡ Interval)
 
--- the text stands for a mesh of other cells
+-- the text stands for a mesh of other cells, and this is the line of its header
 abbrev pub IsWrongCell : List ℕ → MeshRefusal → Type 0
-IsWrongCell text r = (m : MeshData Fraction) × (meaning text ≡ Ok m) × (m.kind ≢ Interval) × (r.kind ≡ mesh.WrongCell)
+IsWrongCell text r = (m : MeshData Fraction) × (meaning text ≡ Ok m) × (m.kind ≢ Interval) × (r.kind ≡ mesh.WrongCell) × (r.line ≡ header_line text)
 
 -- when a mesh is refused: by its text, or for its cells
 abbrev pub MeshCause : MeshRefusal → List ℕ → Type 0

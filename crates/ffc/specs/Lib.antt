@@ -1,6 +1,7 @@
 pub mod Outcome
 pub mod Words
 pub mod FormFile
+pub mod Header
 pub mod Text
 pub mod Unit
 pub mod Lines

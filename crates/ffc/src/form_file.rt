@@ -47,8 +47,8 @@ fn read_fourth(line: &[u8]) -> Option<Ratio>
     read_factor(tail.strip_suffix(BEHIND_FACTOR)?)
 }
 
-// The text before the first line feed, and the text behind it.
-fn split_line(text: &[u8]) -> Option<(&[u8], &[u8])>
+/// The text before the first line feed, and the text behind it.
+pub fn split_line(text: &[u8]) -> Option<(&[u8], &[u8])>
     ensures some { IfSome result (λ parts. (text.now ≡ parts.0.now ++ 10 ∷ parts.1.now) × HasNoFeed parts.0.now) }
     ensures none { IfNone result (HasNoFeed text.now) }
 {

@@ -5,6 +5,7 @@
 
 mod command;
 mod form_file;
+mod header;
 mod lines;
 mod loading;
 mod matrix;

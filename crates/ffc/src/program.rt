@@ -13,6 +13,7 @@ ghost use Rattle.spaces.specs.declared.cell.Cell.TheVariants.{Interval};
 
 use crate::command::{Command, read_command};
 use crate::form_file::read_form;
+use crate::header::header_line;
 use crate::lines::put_outcome;
 use crate::loading::{FORM_LIMIT, MESH_LIMIT, load};
 use crate::matrix::{mass_matrix, mass_unit};
@@ -52,25 +53,6 @@ fn load_form<F: Files>(alloc: Global, files: &mut F, name: &str) -> Result<Ratio
     }
 }
 
-// The number of the first line that has a word, which is the header of a mesh.
-fn first_line_with_words(text: &[u8]) -> u32 {
-    let mut line: u32 = 1;
-    let mut in_comment = false;
-    for byte in text {
-        match byte {
-            b'\n' => {
-                line = line.saturating_add(1);
-                in_comment = false;
-            }
-            b'#' => in_comment = true,
-            b' ' | b'\t' | b'\r' => {}
-            _ if in_comment => {}
-            _ => break,
-        }
-    }
-    line
-}
-
 // Loads a mesh of intervals.
 fn load_mesh<F: Files>(alloc: Global, files: &mut F, name: &str) -> Result<Mesh, Outcome>
     ensures kind { IfOk result (λ mesh. mesh.kind ≡ Interval) }
@@ -88,7 +70,7 @@ fn load_mesh<F: Files>(alloc: Global, files: &mut F, name: &str) -> Result<Mesh,
         Cell::Interval => Ok(mesh),
         _ => Err(Outcome::Mesh(MeshRefusal {
             kind: MeshKind::WrongCell,
-            line: first_line_with_words(text.as_slice()),
+            line: header_line(text.as_slice()),
             cell: 0,
         })),
     }

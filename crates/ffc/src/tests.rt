@@ -254,6 +254,14 @@ fn ends_as_the_worked_rows_say(rt: HostRuntime) -> Result<(), Fail> {
         (
             words,
             MASS,
+            "\n # a\r\n\t\r\nmesh 1 tetrahedron 0 0",
+            4,
+            "",
+            "mesh line 4 refusal 7 WrongCell\n",
+        ),
+        (
+            words,
+            MASS,
             "mesh 1 interval 1 0\n7\n",
             0,
             "form a rank 2 rows 0 columns 0\n",

@@ -1,7 +1,8 @@
-use Rattle.std.proofs.Common.{◌≡◌, ◌∙◌, ap, sym, inr, refl, subst, ◌⊎◌, Err, List, ℕ}
+use Rattle.std.proofs.Common.{◌≡◌, ◌∙◌, ap, sym, inr, refl, subst, ◌⊎◌, Err, List, ℕ, arith, length}
 use Rattle.mesh_in.specs.MeshData.{fractions}
-use Rattle.mesh_in.specs.MeshText.{meaning}
-use Rattle.ffc.proofs.LoadLaws.{same_meaning, mesh_fits}
+use Rattle.mesh_in.specs.MeshText.{meaning, longest}
+use Rattle.ffc.specs.Header.{header_line}
+use Rattle.ffc.proofs.LoadLaws.{at_most, mesh_whole, same_meaning, mesh_fits}
 use Rattle.ffc.proofs.program.load_mesh.Goals as goal
 
 pub returns-in-Err-clause-cause : goal.returns-in-Err-clause-cause
@@ -15,9 +16,15 @@ returns-in-Interval-clause-ok g c =
     let t = c.in_ok-text.ensures.ok in
     (t.0, t.1, (sym (ap meaning c.as_slice.ensures.value ∙ same_meaning t.0 c.in_ok-text.text.items t.2) ∙ c.in-Ok.ensures.meaning, sym c.kind.ensures.kind ∙ c.in-Interval.is))
 
+pub header_line-requires : goal.header_line-requires
+header_line-requires g c =
+    let t = c.in_ok-text.ensures.ok in
+    omega (arith, at_most t.0 c.in_ok-text.text.items longest t.2, ap length c.as_slice-in_default.ensures.value)
+
 pub returns-clause-cause : goal.returns-clause-cause
 returns-clause-cause g c =
-    let t = c.in_ok-text.ensures.ok in (
+    let t = c.in_ok-text.ensures.ok in
+    let whole : c.in_ok-text.text.items ≡ t.0 = mesh_whole t.0 c.in_ok-text.text.items (fractions c.in-Ok.mesh) t.2 (ap meaning (sym c.as_slice.ensures.value) ∙ c.in-Ok.ensures.meaning) in (
       t.0,
       t.1,
       inr (
@@ -25,5 +32,6 @@ returns-clause-cause g c =
         sym (ap meaning c.as_slice.ensures.value ∙ same_meaning t.0 c.in_ok-text.text.items t.2) ∙ c.in-Ok.ensures.meaning,
         (λ e. c.in_default.not-Interval (c.kind.ensures.kind ∙ e)),
         refl,
+        c.header_line.ensures ∙ ap header_line (c.as_slice-in_default.ensures.value ∙ whole),
       ),
     )
