@@ -1,5 +1,5 @@
 -- From the run to the outcome
-use Rattle.std.proofs.Common.{◌≡◌, ℕ, List, [], ◌∷◌, ◌++◌, Option, refl, sym, ap, length, map, ◌∙◌, inr}
+use Rattle.std.proofs.Common.{◌≡◌, ℕ, List, [], ◌++◌, Option, refl, sym, ap, length, map, ◌∙◌, inr}
 use Rattle.std.proofs.lemmas.List.{length-map}
 use Rattle.ratio.specs.Value.{fraction_of}
 use Rattle.ratio.specs.declared.reduced.Ratio.{Ratio}

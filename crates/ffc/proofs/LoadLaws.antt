@@ -1,5 +1,5 @@
 -- A file of which one byte more than the limit was asked
-use Rattle.std.proofs.Common.{◌≡◌, ◌≢◌, ℕ, ◌+◌, ◌<◌, ◌≤◌, ◌⊎◌, List, Option, Ok, Err, Bool, true, false, length, take, refl, sym, ◌∙◌, ap, arith, subst, inl, inr, ⊎_elim, min, nat_le}
+use Rattle.std.proofs.Common.{◌≡◌, ℕ, ◌+◌, ◌<◌, ◌≤◌, ◌⊎◌, List, Option, Ok, Err, false, length, take, refl, sym, ◌∙◌, ap, arith, subst, inl, ⊎_elim, min, nat_le}
 use Rattle.std.proofs.lemmas.List.{length-take, take_all}
 use Rattle.std.proofs.lemmas.Bool.{lt-leb}
 use Rattle.algebra.specs.Fraction.{Fraction}

@@ -1,5 +1,5 @@
 -- The line on err for each outcome
-use Rattle.std.specs.Prelude.{◌≡◌, ℕ, ◌≤◌, List, [], ◌∷◌, ◌++◌, Option, codes, decimal, ◌⊎◌}
+use Rattle.std.specs.Prelude.{◌≡◌, ℕ, List, [], ◌∷◌, ◌++◌, Option, codes, decimal, ◌⊎◌}
 use Rattle.ffc.specs.Text.{joined}
 use Rattle.ends.specs.Count.{Rises}
 use Rattle.ends.specs.Told.{appended, TakesPrefix}
@@ -8,7 +8,6 @@ use Rattle.mesh_in.specs.declared.refusal.MeshKind.TheVariants as mesh
 use Rattle.mesh_in.specs.declared.refusal.MeshRefusal.{MeshRefusal}
 use Rattle.ffc.specs.declared.outcome.FormKind.{FormKind}
 use Rattle.ffc.specs.declared.outcome.FormKind.TheVariants as form
-use Rattle.ffc.specs.declared.outcome.FormRefusal.{FormRefusal}
 use Rattle.ffc.specs.declared.outcome.Spot.{Spot}
 use Rattle.ffc.specs.declared.outcome.Spot.TheVariants as spot
 use Rattle.ffc.specs.declared.outcome.Outcome.{Outcome}

@@ -1,5 +1,5 @@
 -- The unit that is printed for the form `c*u*v*dx`
-use Rattle.std.specs.Prelude.{◌≡◌, ℕ, ◌≤◌, List, [], ◌∷◌, codes}
+use Rattle.std.specs.Prelude.{◌≡◌, ◌≤◌, [], ◌∷◌, codes}
 use Rattle.algebra.specs.Fraction.{Fraction}
 use Rattle.c_unit.specs.declared.unit.CFun.{CFun}
 use Rattle.c_unit.specs.declared.unit.CUnit.{CUnit}

@@ -1,5 +1,5 @@
 -- The shapes that the words of a command line may have
-use Rattle.std.specs.Prelude.{◌≡◌, ℕ, zero, suc, List, [], ◌∷◌, map, Option, None, Some, codes, string_bytes, String, slice_get}
+use Rattle.std.specs.Prelude.{◌≡◌, ℕ, zero, suc, List, [], ◌∷◌, map, Option, None, codes, string_bytes, String, slice_get}
 use Rattle.std.specs.Global.{Global}
 
 -- the words as bytes

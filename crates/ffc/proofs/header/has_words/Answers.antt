@@ -1,5 +1,4 @@
-use Rattle.std.proofs.Common.{◌≡◌, ◌∙◌, sym, arith, get_or, true, false}
-use Rattle.mesh_in.specs.Line.{is_blank}
+use Rattle.std.proofs.Common.{◌∙◌, sym, arith}
 use Rattle.ffc.proofs.HeaderLaws.{at_comment, at_word, at_blank, at_end}
 use Rattle.ffc.proofs.header.has_words.Goals as goal
 

@@ -1,9 +1,9 @@
-use Rattle.std.proofs.Common.{◌≡◌, ◌∙◌, ◌+◌, ℕ, sym, arith, true, false, length}
+use Rattle.std.proofs.Common.{◌≡◌, ◌∙◌, sym, arith, length}
 use Rattle.std.specs.List.{position_or_len}
 use Rattle.std.specs.Str.Lines.{lines}
 use Rattle.std.proofs.lemmas.Bool.{eqb-true}
 use Rattle.ffc.specs.Header.{has_words, header_line}
-use Rattle.ffc.proofs.HeaderLaws.{place_here, place_later, no_place}
+use Rattle.ffc.proofs.HeaderLaws.{place_here, no_place}
 use Rattle.ffc.proofs.header.header_line.Goals as goal
 
 pub returns-then-has_words : goal.returns-then-has_words

@@ -1,4 +1,4 @@
-use Rattle.std.proofs.Common.{◌≡◌, drop, List, ℕ}
+use Rattle.std.proofs.Common.{drop}
 use Rattle.std.specs.List.{flat_map}
 use Rattle.ffc.specs.Lines.{part_text, PutsAfter}
 use Rattle.ffc.proofs.lines.put_line.Given as goal

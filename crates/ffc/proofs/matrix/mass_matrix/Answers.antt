@@ -1,6 +1,5 @@
-use Rattle.std.proofs.Common.{◌≡◌, ℕ, List, length, map, subst, ap, sym}
+use Rattle.std.proofs.Common.{◌≡◌, ℕ, List, length, subst, ap}
 use Rattle.std.specs.List.{AllByRecursion}
-use Rattle.algebra.specs.Fraction.{Fraction}
 use Rattle.ratio.specs.declared.reduced.Ratio.{Ratio}
 use Rattle.ratio.specs.Value.{fraction_of}
 use Rattle.spaces.specs.Cell.{dimension}

@@ -1,4 +1,4 @@
-use Rattle.std.proofs.Common.{◌≡◌, ap, subst, List, ℕ, Option, map, codes}
+use Rattle.std.proofs.Common.{ap, subst, List, Option, map, codes}
 use Rattle.std.proofs.lemmas.Result.{err_from_is_err_and}
 use Rattle.ends.specs.Held.{Held}
 use Rattle.mesh_in.specs.MeshData.{fractions}

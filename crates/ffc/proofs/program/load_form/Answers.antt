@@ -1,4 +1,4 @@
-use Rattle.std.proofs.Common.{◌≡◌, ◌≤◌, ◌∙◌, ℕ, List, sym, arith, subst, refl, length}
+use Rattle.std.proofs.Common.{◌≤◌, ◌∙◌, ℕ, List, arith, subst, refl, length}
 use Rattle.ratio.specs.Value.{fraction_of}
 use Rattle.ffc.specs.Answer.{form_limit}
 use Rattle.ffc.specs.FormFile.{IsForm, IsNoForm, IsOff}

@@ -1,4 +1,4 @@
-use Rattle.std.proofs.Common.{◌≡◌, ◌∙◌, ap, sym, inr, refl, subst, ◌⊎◌, Err, List, ℕ, arith, length}
+use Rattle.std.proofs.Common.{◌≡◌, ◌∙◌, ap, sym, inr, refl, arith, length}
 use Rattle.mesh_in.specs.MeshData.{fractions}
 use Rattle.mesh_in.specs.MeshText.{meaning, longest}
 use Rattle.ffc.specs.Header.{header_line}
