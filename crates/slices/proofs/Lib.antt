@@ -3,3 +3,4 @@ pub mod Next
 pub mod Ahead
 pub mod Form
 pub mod FormNext
+pub mod FormEnd

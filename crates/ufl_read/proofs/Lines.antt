@@ -158,16 +158,16 @@ before_at all front bad after at d e =
     let whole : take at all ++ bad ∷ after ≡ all = ap (λ l. take at all ++ l) (sym d) ∙ take-append-drop at all in
     sym (append_cancel_right (take at all) front (bad ∷ after) (whole ∙ e))
 
-pub refusal_from : (n : ℕ) (all : List Lexeme) (e : Fault) → Fails all e (run (statements n ∷ []) all) → IsRefusal n all e
-refusal_from n all f.Memory h = tt
-refusal_from n all f.Short h = (ended_begins n all false h, λ sts d. no_file_short n all sts d h)
-refusal_from n all (f.Wrong at) h =
+pub refusal_from : (n : ℕ) (all : List Lexeme) (e : Fault) → 2 ≤ n → Fails all e (run (statements n ∷ []) all) → IsRefusal n all e
+refusal_from n all f.Memory l h = tt
+refusal_from n all f.Short l h = (ended_begins n all false h, λ sts d. no_file_short n all sts d h)
+refusal_from n all (f.Wrong at) l h =
     let s = stops_at all (statements n ∷ []) (drop at all) h in
-    let r = is_refused n all s.0 s.1 (h ∙ ap stopped s.2) in
+    let r = is_refused n all s.0 s.1 l (h ∙ ap stopped s.2) in
     (s.0, s.1, s.2, subst (λ front. IsRefused n front s.0 × IsWrong n front s.0) (before_at all r.0 s.0 s.1 at s.2 r.1) (r.2, r.3))
-refusal_from n all (f.Deep at) h =
+refusal_from n all (f.Deep at) l h =
     let s = sinks_at all (statements n ∷ []) (drop at all) h in
-    let r = is_sunk n all s.0 s.1 (h ∙ ap sank s.2) in
+    let r = is_sunk n all s.0 s.1 l (h ∙ ap sank s.2) in
     (s.0, s.1, s.2, subst (λ front. IsRefused n front s.0 × IsTooDeep n front s.0) (before_at all r.0 s.0 s.1 at s.2 r.1) (r.2, r.3))
 
 -- what follows the first token of a statement, read on its own

@@ -1,18 +1,20 @@
 -- The file as a whole
-use Rattle.std.proofs.Common.{[], ◌∷◌, ◌++◌, ◌≡◌, ◌<◌, ◌≤◌, ◌+◌, ◌⊎◌, inl, inr, length, take, drop, List, ℕ, zero, suc, Option, Some, None, refl, sym, ap, subst, ◌∙◌, append_assoc, append-nil, arith}
+use Rattle.std.proofs.Common.{[], ◌∷◌, ◌++◌, ◌≡◌, ◌<◌, ◌≤◌, ◌+◌, ◌⊎◌, inl, inr, length, take, drop, List, ℕ, zero, suc, Option, Some, None, false, refl, sym, ap, subst, ◌∙◌, append_assoc, append-nil, arith}
 use Rattle.std.proofs.lemmas.List.{take-append-drop}
 use Rattle.slices.specs.declared.toks.Tok.{Tok}
 use Rattle.slices.specs.declared.toks.LexAt.{LexAt}
 use Rattle.slices.specs.Tokens.{token_of}
 use Rattle.slices.specs.FormTokens.{FormReader, form_next, finished, no_token, token, form_begins, Scan, no_more, lost, one_more}
 use Rattle.slices.proofs.FormNext.{texts_kept}
+use Rattle.slices.proofs.FormEnd.{EndsALine, ends_a_line}
 use Rattle.ufl_syntax.specs.declared.class.Lexeme.{Lexeme}
 use Rattle.ufl_syntax.specs.declared.tree.Stmt.{Stmt}
-use Rattle.ufl_syntax.specs.Grammar.{File}
-use Rattle.ufl_syntax.specs.Classes.{lexeme_of, lexemes}
+use Rattle.ufl_syntax.specs.Grammar.{File, no_statement}
+use Rattle.ufl_syntax.specs.Classes.{class_by, lexeme_of, lexemes}
+use Rattle.ufl_syntax.proofs.Refusal.{closed_begins}
 use Rattle.ufl_read.specs.declared.tokens.Fault.{Fault}
 use Rattle.ufl_read.specs.declared.tokens.Fault.TheVariants as f
-use Rattle.ufl_read.specs.Reads.{IsRefusal}
+use Rattle.ufl_read.specs.Reads.{EndsEarly, IsRefusal}
 use Rattle.ufl_read.specs.Refusals as r
 use Rattle.ufl_read.specs.Refusals.{started, statement_line, line_or, wrong_by, deep_by, refusal_for, IsUnread, IsFormRefusal, AreShort}
 
@@ -61,9 +63,21 @@ are_short text ts e all h s i = λ at bad after d.
 split_at : (all : List Lexeme) (at : ℕ) (bad : Lexeme) (after : List Lexeme) → drop at all ≡ bad ∷ after → all ≡ take at all ++ bad ∷ after
 split_at all at bad after d = sym (take-append-drop at all) ∙ ap (λ l. take at all ++ l) d
 
+no_tokens : (n : ℕ) → EndsEarly n [] → ⊥
+no_tokens n w = w.1 [] no_statement
+
+-- the tokens of a whole file don't end too early
+never_early : (ts : List Tok) → ((ts ≡ []) × (false ≡ false)) ⊎ EndsALine ts → EndsEarly 64 (lexemes ts) → ⊥
+never_early ts (inl x) w = no_tokens 64 (subst (λ l. EndsEarly 64 (lexemes l)) x.0 w)
+never_early ts (inr (front, end, x, i)) w =
+    let e : lexemes ts ≡ lexemes front ++ lexeme_of end ∷ [] = ap lexemes x ∙ lexemes_append front (end ∷ []) in
+    let v = subst (λ l. EndsEarly 64 l) e w in
+    let d = closed_begins 64 (lexemes front) (lexeme_of end) (omega arith) (ap (λ j. class_by j end.text.now) i) v.0 in
+    v.1 d.0 d.1
+
 unread : (text : List ℕ) (ts : List Tok) (fault : Fault) (e : Option LexAt) → length text ≤ 262144 → Scan (form_begins text) ts e → IsRefusal 64 (lexemes ts) fault → IsFormRefusal text (refusal_for (lexemes ts) fault e)
 unread text ts f.Memory e h s w = inl refl
-unread text ts f.Short None h s w = inr (inr (h, r.too_short ts s w.0 w.1))
+unread text ts f.Short None h s w = absurd (never_early ts (ends_a_line (form_begins text) ts None refl s) w)
 unread text ts f.Short (Some e) h s w = inr (inr (h, r.no_token ts e s w.0))
 unread text ts (f.Wrong at) e h s w =
     inr (inr (h, subst (λ l. IsUnread text (wrong_by (take at (lexemes ts)) l)) (sym w.2) (r.wrong_token (take at (lexemes ts)) w.0 w.1 s (split_at (lexemes ts) at w.0 w.1 w.2) w.3.0 w.3.1)))

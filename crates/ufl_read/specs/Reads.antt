@@ -85,9 +85,13 @@ bracket_parts n = a_word n ∷ after_target ∷ token k.Close ∷ token k.Assign
 abbrev pub At : (List Lexeme → Lexeme → Type 0) → List Lexeme → ℕ → Type 0
 At IsBad all at = (bad : Lexeme) × (after : List Lexeme) × (drop at all ≡ bad ∷ after) × IsBad (take at all) bad
 
+-- The tokens end too early: they are no list of statements, and some list of statements begins with them.
+abbrev pub EndsEarly : ℕ → List Lexeme → Type 0
+EndsEarly n all = Begins n all × ((sts : List Stmt) → File n all sts [] → ⊥)
+
 -- why the tokens are no list of statements
 abbrev pub IsRefusal : ℕ → List Lexeme → Fault → Type 0
 IsRefusal n all f.Memory = Unit {0}
-IsRefusal n all f.Short = Begins n all × ((sts : List Stmt) → File n all sts [] → ⊥)
+IsRefusal n all f.Short = EndsEarly n all
 IsRefusal n all (f.Wrong at) = At (λ front bad. IsRefused n front bad × IsWrong n front bad) all at
 IsRefusal n all (f.Deep at) = At (λ front bad. IsRefused n front bad × IsTooDeep n front bad) all at

@@ -53,7 +53,8 @@ wrong_at front bad =
 abbrev pub IsFile : List ℕ → List Stmt → Type 0
 IsFile text sts = (length text ≤ 262144) × (ts : List Tok) × Scan (form_begins text) ts None × File 64 (lexemes ts) sts []
 
--- why a file that isn't too long is refused, wherever memory lasts
+-- Why a file that isn't too long is refused, wherever memory lasts. The tokens of a whole file never end too early, since the last of them ends a line:
+-- where a bracket is open or a statement lacks its rest, that last token is the refused one.
 pub data IsUnread : List ℕ → FormRefusal → Type 0 where
   -- no token starts behind these, which can be gone on with
   no_token : {text : List ℕ} (ts : List Tok) (e : LexAt) → Scan (form_begins text) ts (Some e) → Begins 64 (lexemes ts) → IsUnread text (wordless r.Lex (statement_line (lexemes ts) e.line))
@@ -61,9 +62,6 @@ pub data IsUnread : List ℕ → FormRefusal → Type 0 where
       → Scan (form_begins text) ts e → lexemes ts ≡ front ++ bad ∷ after → IsRefused 64 front bad → IsWrong 64 front bad → IsUnread text (wrong_at front bad)
   too_deep : {text : List ℕ} {ts : List Tok} {e : Option LexAt} (front : List Lexeme) (bad : Lexeme) (after : List Lexeme)
       → Scan (form_begins text) ts e → lexemes ts ≡ front ++ bad ∷ after → IsRefused 64 front bad → IsTooDeep 64 front bad → IsUnread text (wordless r.Deep (statement_line front bad.tok.line))
-  -- the tokens are no list of statements, and can be gone on with
-  too_short : {text : List ℕ} (ts : List Tok) → Scan (form_begins text) ts None → Begins 64 (lexemes ts) → ((sts : List Stmt) → File 64 (lexemes ts) sts [] → ⊥)
-      → IsUnread text (wordless r.Syntax (statement_line (lexemes ts) 0))
 
 abbrev pub IsFormRefusal : List ℕ → FormRefusal → Type 0
 IsFormRefusal text e = (e ≡ wordless r.Memory 0) ⊎ ((262144 < length text) × (e ≡ wordless r.TooLong 0)) ⊎ ((length text ≤ 262144) × IsUnread text e)

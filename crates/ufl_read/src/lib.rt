@@ -1,3 +1,4 @@
+//! Reads UFL form files: texts of a small part of Python, as statements whose tokens are slices of the text.
 //!
 //! The grammar and its laws are those of `ufl_syntax`. The descent goes no deeper than brackets, signs and `**` may nest;
 //! all else is read in loops.
@@ -13,3 +14,4 @@ pub use file::{LIMIT, read_file};
 pub use refusal::{FormKind, FormRefusal};
 pub use statements::read_statements;
 pub use tokens::Fault;
+pub use ufl_syntax::{Arg, AssignOp, Next, Post, Stmt, Syn};

@@ -125,7 +125,7 @@ fn wrong(front: &[Lexeme<'_>], bad: Lexeme<'_>) -> FormRefusal
     }
 }
 
-// The refusal of tokens with a fault, where no token starts there behind them.
+// The refusal of tokens with a fault, where no token starts there behind them. The tokens of a whole file never end too early.
 pub fn refusal_of(tokens: &[Lexeme<'_>], fault: Fault, lost: Option<LexAt>) -> FormRefusal
     requires { AreShort tokens.now }
     ensures { result ≡ refusal_for tokens.now fault lost }

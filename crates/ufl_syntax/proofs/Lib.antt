@@ -3,5 +3,7 @@ pub mod Complete
 pub mod Words
 pub mod Viable
 pub mod Room
+pub mod Depth
 pub mod Refusal
+pub mod Only
 pub mod Unique

@@ -285,8 +285,11 @@ unfolding run
 shorter [] s = tt
 shorter (t ∷ ts) s = shorter_by t ts (step s t.class) (shorter ts)
 
-too_long : (bad : Lexeme) (after : List Lexeme) (s : List Part) → run s after ≡ sank (bad ∷ after) → ⊥
+pub too_long : (bad : Lexeme) (after : List Lexeme) (s : List Part) → run s after ≡ sank (bad ∷ after) → ⊥
 too_long bad after s e = let h : length (bad ∷ after) ≤ length after = subst (Shorter after) e (shorter after s) in absurd (omega (arith, h))
+
+pub stops_later : (bad : Lexeme) (after : List Lexeme) (s : List Part) → run s after ≡ stopped (bad ∷ after) → ⊥
+stops_later bad after s e = let h : length (bad ∷ after) ≤ length after = subst (Shorter after) e (shorter after s) in absurd (omega (arith, h))
 
 not_deep_by : (bad : Lexeme) (after : List Lexeme) (x y : m.Next) → NextLifts bad.class x y → resume (λ s. run s after) (bad ∷ after) y ≡ sank (bad ∷ after) → ⊥
 not_deep_by bad after (goes_on s) y h e = too_long bad after (lifts s) (sym (ap (resume (λ s. run s after) (bad ∷ after)) h) ∙ e)

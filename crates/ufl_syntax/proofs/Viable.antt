@@ -1,12 +1,12 @@
 -- Up to the refused token the text can be gone on with, and the refusal hangs on nothing after it.
-use Rattle.std.proofs.Common.{[], ◌∷◌, ◌++◌, ◌≡◌, true, false, Bool, List, inl, ℕ, zero, suc, refl, sym, ap, subst, ◌∙◌}
+use Rattle.std.proofs.Common.{[], ◌∷◌, ◌++◌, ◌≡◌, true, false, Bool, if◌then◌else◌, List, inl, ℕ, zero, suc, refl, sym, ap, subst, ◌∙◌}
 use Rattle.ufl_syntax.specs.declared.class.Class.{Class}
 use Rattle.ufl_syntax.specs.declared.class.Class.TheVariants as k
 use Rattle.ufl_syntax.specs.declared.class.Lexeme.{Lexeme}
 use Rattle.ufl_syntax.specs.declared.tree.Syn.TheVariants as s
 use Rattle.ufl_syntax.specs.Grammar as g
 use Rattle.ufl_syntax.specs.Machine as m
-use Rattle.ufl_syntax.specs.Machine.{Part, Step, takes, skips, wrong, deep, then_, part_on, signed_on, atom_on, sum_on, term_on, first_on, statement_on, word_on, opening, step, step_by, run, resume, goes_on, is_wrong, is_deep, Outcome, ended, stopped, sank, may_be_empty, if_same, same, statements, a_statement, after_first, later_names, after_target, a_value, a_later, after_sum, a_sum, adds, a_term, muls, a_signed, a_power, a_postfix, an_atom, posts, a_post, args, an_arg, after_arg, after_name, a_word, token}
+use Rattle.ufl_syntax.specs.Machine.{Part, Step, takes, skips, wrong, deep, then_, part_on, signed_on, atom_on, sum_on, term_on, first_on, statement_on, word_on, opening, step, step_by, run, resume, goes_on, is_wrong, is_deep, Outcome, ended, stopped, sank, may_be_empty, all_may, if_same, same, statements, a_statement, after_first, later_names, after_target, a_value, a_later, after_sum, a_sum, adds, a_term, muls, a_signed, a_power, a_postfix, an_atom, posts, a_post, args, an_arg, after_arg, after_name, a_word, token}
 use Rattle.ufl_syntax.proofs.Steps.{moves, moves_then, moves_signed, moves_term, moves_sum, moves_atom, moves_inside}
 use Rattle.ufl_syntax.proofs.Complete.{moves_postfix}
 use Rattle.ufl_syntax.proofs.Words.{Is, All, AllOf, all_append, part_back, no_power, inr_name, first_of}
@@ -248,3 +248,49 @@ pub ends : (u : Lexeme) (ts : List Lexeme) (stack : List Part) (b : Bool) → ru
 unfolding run
 ends u [] stack b h = words u stack []
 ends u (t ∷ ts) stack b h = ends_by u t ts stack b (step stack t.class) refl (λ next e. ends u ts next b e) h
+
+empty_by : (q : Part) (stack : List Part) (b : Bool) → may_be_empty q ≡ b → (if b then all_may stack else false) ≡ true → (all_may stack ≡ true → All stack [] []) → All (q ∷ stack) [] []
+empty_by q stack true e h below = ([], empty q [] e, below h)
+empty_by q stack false e h below = cc
+
+empties : (stack : List Part) → all_may stack ≡ true → All stack [] []
+empties [] h = refl
+empties (q ∷ stack) h = empty_by q stack (may_be_empty q) refl h (empties stack)
+
+ended_is : (a b : Bool) → ended a ≡ ended b → a ≡ b
+ended_is a b e = cc
+
+whole_by : (t : Lexeme) (ts : List Lexeme) (stack : List Part) (x : m.Next) → step stack t.class ≡ x → ((next : List Part) → run next ts ≡ ended true → All next ts [])
+    → resume (λ s. run s ts) (t ∷ ts) x ≡ ended true → All stack (t ∷ ts) []
+whole_by t ts stack (goes_on next) e below h = step_back stack t ts [] (subst (λ y. AllNext y ts []) (sym e) (below next h))
+whole_by t ts stack is_wrong e below h = cc
+whole_by t ts stack is_deep e below h = cc
+
+-- tokens that run out where nothing more is wanted are all that was wanted
+pub whole : (ts : List Lexeme) (stack : List Part) → run stack ts ≡ ended true → All stack ts []
+unfolding run
+whole [] stack h = empties stack (ended_is (all_may stack) true h)
+whole (t ∷ ts) stack h = whole_by t ts stack (step stack t.class) refl (λ next. whole ts next) h
+
+split_by : (t : Lexeme) (front more : List Lexeme) (b : Bool) (x : m.Next) → ((s : List Part) → run s (front ++ more) ≡ ended b → (z : List Part) × ((rest : List Lexeme) → run s (front ++ rest) ≡ run z rest))
+    → resume (λ s. run s (front ++ more)) (t ∷ (front ++ more)) x ≡ ended b → (z : List Part) × ((rest : List Lexeme) → resume (λ s. run s (front ++ rest)) (t ∷ (front ++ rest)) x ≡ run z rest)
+split_by t front more b (goes_on s) below e = below s e
+split_by t front more b is_wrong below e = cc
+split_by t front more b is_deep below e = cc
+
+-- what is still to be read behind the first of tokens that run out
+pub split : (front more : List Lexeme) (stack : List Part) (b : Bool) → run stack (front ++ more) ≡ ended b → (z : List Part) × ((rest : List Lexeme) → run stack (front ++ rest) ≡ run z rest)
+unfolding run
+split [] more stack b e = (stack, λ rest. refl)
+split (t ∷ front) more stack b e = split_by t front more b (step stack t.class) (λ s. split front more s b) e
+
+sinks_by_one : (bad : Lexeme) (us : List Lexeme) (x : m.Next) → resume (λ s. run s []) (bad ∷ []) x ≡ sank us → us ≡ bad ∷ []
+unfolding run
+sinks_by_one bad us (goes_on s) e = cc
+sinks_by_one bad us is_wrong e = cc
+sinks_by_one bad us is_deep e = cc
+
+-- one token is too deep itself
+pub sinks_one : (bad : Lexeme) (us : List Lexeme) (stack : List Part) → run stack (bad ∷ []) ≡ sank us → us ≡ bad ∷ []
+unfolding run
+sinks_one bad us stack e = sinks_by_one bad us (step stack bad.class) e

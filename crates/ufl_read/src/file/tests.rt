@@ -1,9 +1,9 @@
 // Texts, each with its statements in short form or its refusal.
 
 use super::*;
+use crate::{Arg, AssignOp, Next, Post, Syn};
 use std::io::Write;
 use std::test::Fail;
-use ufl_syntax::{Arg, AssignOp, Next, Post, Syn};
 
 // Bytes behind those before; where memory ends, they are left out, and the comparison fails.
 fn put(out: &mut Vec<u8>, bytes: &[u8]) {
@@ -235,7 +235,7 @@ const NO_TOKEN: [(&str, &str); 10] = [
 ];
 
 // Tokens that can not stand where they do.
-const REFUSED: [(&str, &str); 27] = [
+const REFUSED: [(&str, &str); 30] = [
     ("a = 1e1234", "Syntax 1"),
     ("a = 1e", "Syntax 1"),
     ("a = 1.dx", "Syntax 1"),
@@ -246,6 +246,9 @@ const REFUSED: [(&str, &str); 27] = [
     ("a = ()", "Syntax 1"),
     ("a = (b\n\nc", "Syntax 1"),
     ("a = (b", "Syntax 1"),
+    ("\na = f(b,\nc\n", "Syntax 2"),
+    ("a =\n\n", "Syntax 1"),
+    ("a = (b\n", "Syntax 1"),
     ("a = b)", "Syntax 1"),
     ("a = f(u.v=2)", "Syntax 1"),
     ("a = f((u)=2)", "Syntax 1"),
@@ -307,7 +310,7 @@ fn refuses_tokens(rt: HostRuntime) -> Result<(), Fail> {
 }
 
 // What opens, what stands inside, what closes, how often, and whether that is too deep.
-const NESTED: [(&str, &str, &str, u32, bool); 17] = [
+const NESTED: [(&str, &str, &str, u32, bool); 26] = [
     ("(", "u", ")", 64, false),
     ("(", "u", ")", 65, true),
     ("[", "", "]", 64, false),
@@ -324,6 +327,15 @@ const NESTED: [(&str, &str, &str, u32, bool); 17] = [
     ("(", "u-u", ")", 64, false),
     ("(", "u.(u)", ")", 64, true),
     ("-", "u.[u]", "", 64, true),
+    ("-", "u.[u]", "", 63, false),
+    ("-", "u*u.(u)", "", 64, false),
+    ("-", "u-u.(u)", "", 64, false),
+    ("-", "u.-u", "", 64, false),
+    ("-", "u.**u", "", 64, false),
+    ("(", "**u", ")", 64, false),
+    ("(", "+u", ")", 64, true),
+    ("(", "u**u", ")", 64, true),
+    ("-u*", "u", "", 1000, false),
     ("(u)+", "u", "", 1000, false),
 ];
 

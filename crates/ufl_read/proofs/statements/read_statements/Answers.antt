@@ -15,7 +15,7 @@ returns-then-at-tokens-clause-only c = λ xs d. one_reading 64 c.args.tokens.now
 pub returns-in_err-one-clause-refused : goal.returns-in_err-one-clause-refused
 returns-in_err-one-clause-refused c =
     let p = err_from_is_err_and c.from_residual.result c.from_residual.ensures.1 in
-    rw (p.1, p.2) (refusal_from 64 c.args.tokens.now _ (along c.args.tokens.now _ _ _
+    rw (p.1, p.2) (refusal_from 64 c.args.tokens.now _ (omega arith) (along c.args.tokens.now _ _ _
     (c.all.invariant.1 ∙ next_statement 64 _ (something_left c.args.tokens.now c.all.at (omega (arith, c.if-at-tokens.false))))
     (c.in_err-one.ensures (statements 64 ∷ []))))
 
