@@ -1,9 +1,8 @@
 -- The tokens of a form file end with the end of a line.
-use Rattle.std.proofs.Common.{◌≡◌, ℕ, List, [], ◌∷◌, ◌++◌, ◌⊎◌, inl, inr, Option, Some, None, true, false, Bool, ◌==◌, if◌then◌else◌, refl, sym, ap, subst, drop}
+use Rattle.std.proofs.Common.{◌≡◌, ℕ, List, [], ◌∷◌, ◌++◌, ◌⊎◌, inl, inr, Option, Some, None, true, false, Bool, ◌==◌, if◌then◌else◌, refl, ap, subst, drop}
 use Rattle.slices.specs.FormGap.{Spot}
 use Rattle.slices.specs.FormTable.{form_token}
 use Rattle.slices.specs.FormTokens.{FormReader, FormNext, finished, no_token, token, form_next, gap_end, next_at, next_by, Scan, no_more, lost, one_more}
-use Rattle.slices.specs.Tokens.{token_of}
 use Rattle.slices.specs.declared.toks.Tok.{Tok}
 use Rattle.slices.specs.declared.toks.LexAt.{LexAt}
 use Rattle.slices.specs.declared.toks.TokKind.{TokKind}

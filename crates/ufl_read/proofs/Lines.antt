@@ -1,5 +1,5 @@
 -- One turn of the machine in a statement.
-use Rattle.std.proofs.Common.{[], ◌∷◌, ◌++◌, ◌≡◌, ◌+◌, Result, Ok, Err, ◌<◌, ◌≤◌, true, false, Bool, length, take, drop, List, ℕ, zero, suc, Option, Some, None, refl, sym, ap, subst, ◌∙◌, append_assoc, append-nil, arith, length-drop}
+use Rattle.std.proofs.Common.{[], ◌∷◌, ◌++◌, ◌≡◌, ◌+◌, Result, Ok, Err, ◌<◌, ◌≤◌, true, false, Bool, length, take, drop, List, ℕ, Some, None, refl, sym, ap, subst, ◌∙◌, append_assoc, append-nil, arith, length-drop}
 use Rattle.slices.specs.declared.toks.Tok.{Tok}
 use Rattle.ufl_syntax.specs.declared.class.Class.{Class}
 use Rattle.ufl_syntax.specs.declared.class.Class.TheVariants as k
@@ -8,18 +8,16 @@ use Rattle.ufl_syntax.specs.declared.tree.AssignOp.{AssignOp}
 use Rattle.ufl_syntax.specs.declared.tree.AssignOp.TheVariants as o
 use Rattle.ufl_syntax.specs.declared.tree.Stmt.{Stmt}
 use Rattle.ufl_syntax.specs.declared.tree.Syn.{Syn}
-use Rattle.ufl_syntax.specs.Grammar.{assignment, import_all, first_line, Value, LaterNames, no_name, last_name, further_name, Names, one_name, several_names, Targets, bare_targets, bracketed_targets, Statement, imports, assigns, updated, updates, File, no_statement, one_statement}
-use Rattle.ufl_syntax.specs.Machine.{Part, takes, skips, wrong, deep, part_on, names_on, comma_on, first_on, statement_on, run, Outcome, ended, stopped, sank, same, begins_statement, statements, a_statement, after_first, later_names, after_target, a_value, a_word, token}
+use Rattle.ufl_syntax.specs.Grammar.{assignment, import_all, first_line, LaterNames, no_name, last_name, further_name, Names, one_name, several_names, Targets, bare_targets, bracketed_targets, Statement, imports, assigns, updated, updates, File, no_statement, one_statement}
+use Rattle.ufl_syntax.specs.Machine.{takes, skips, wrong, part_on, first_on, statement_on, run, stopped, sank, same, begins_statement, statements, a_statement, after_first, later_names, a_value, token}
 use Rattle.std.proofs.lemmas.List.{take-append-drop, append_cancel_right}
 use Rattle.ufl_syntax.specs.Refusal.{IsRefused, IsWrong, IsTooDeep}
-use Rattle.ufl_syntax.proofs.Words.{same_is}
-use Rattle.ufl_syntax.proofs.Steps.{run_takes, run_skips, run_wrong}
-use Rattle.ufl_syntax.proofs.Complete.{run_none, statements_begin, statements_skip, update_on, runs_whole, no_file_short}
+use Rattle.ufl_syntax.proofs.Steps.{run_skips, run_wrong}
+use Rattle.ufl_syntax.proofs.Complete.{run_none, statements_begin, statements_skip, no_file_short}
 use Rattle.ufl_syntax.proofs.Refusal.{ended_begins, is_refused, is_sunk, stops_at, sinks_at}
-use Rattle.ufl_syntax.proofs.Unique.{one_reading}
 use Rattle.ufl_read.specs.declared.tokens.Fault.{Fault}
 use Rattle.ufl_read.specs.declared.tokens.Fault.TheVariants as f
-use Rattle.ufl_read.specs.Reads.{Fails, At, Reads, ReadsAll, bracket_parts, IsRefusal, IsWord, IsSign, IsEnded, IsAssigned, IsImport}
+use Rattle.ufl_read.specs.Reads.{Fails, Reads, ReadsAll, bracket_parts, IsRefusal, IsWord, IsSign, IsEnded, IsAssigned, IsImport}
 use Rattle.ufl_read.proofs.Turns.{take_at, along}
 
 -- names behind those before

@@ -6,18 +6,16 @@ use Rattle.ufl_syntax.specs.declared.class.Lexeme.{Lexeme}
 use Rattle.ufl_syntax.specs.declared.tree.Syn.{Syn}
 use Rattle.ufl_syntax.specs.declared.tree.Next.{Next}
 use Rattle.ufl_syntax.specs.declared.tree.Syn.TheVariants as s
-use Rattle.slices.specs.declared.toks.Tok.{Tok}
 use Rattle.ufl_syntax.specs.declared.tree.Post.{Post}
 use Rattle.ufl_syntax.specs.declared.tree.Post.TheVariants as p
 use Rattle.ufl_syntax.specs.declared.tree.Arg.{Arg}
-use Rattle.ufl_syntax.specs.Grammar.{is_sign, is_factor, next, chain, applied, Value, tuple, Later, no_later, last, further, Sum, sum, Adds, no_add, add, Term, term, Muls, no_mul, mul, Signed, sign, plain, power, Postfix, postfix, Posts, no_post, one_post, OnePost, call, index, attr, Args, no_arg, last_arg, further_arg, OneArg, keyed, argument, Atom, a_name, a_number, a_text, bracketed, a_list}
-use Rattle.ufl_syntax.proofs.Complete.{Heads, NotAssign, chain_parts, signed_begins, sum_begins, name_as}
-use Rattle.ufl_syntax.specs.Machine.{Part, takes, skips, wrong, deep, part_on, atom_on, muls_on, adds_on, comma_on, word_on, run, Outcome, ended, stopped, sank, same, may_be_empty, is_first, is_post, power_on, post_on, args_on, posts_on, a_value, a_later, after_sum, a_sum, adds, a_term, muls, a_signed, a_power, a_postfix, an_atom, posts, a_post, args, after_arg, after_name, an_arg, a_word, both_are, arg_on, name_on, token, if_same}
-use Rattle.ufl_syntax.proofs.Words.{same_is}
-use Rattle.ufl_syntax.proofs.Steps.{run_begins, moves_signed, moves_term, run_takes, run_skips, run_may, run_short, run_wrong, run_deep}
+use Rattle.ufl_syntax.specs.Grammar.{is_sign, is_factor, next, chain, applied, Value, tuple, Later, no_later, last, further, Sum, sum, Adds, no_add, add, Term, term, Muls, no_mul, mul, Signed, sign, plain, power, Postfix, postfix, Posts, no_post, one_post, OnePost, call, index, attr, Args, no_arg, last_arg, further_arg, OneArg, keyed, argument, Atom, bracketed, a_list}
+use Rattle.ufl_syntax.proofs.Complete.{Heads, Ends, more_term, c_term, NotAssign, signed_begins, sum_begins, name_as}
+use Rattle.ufl_syntax.specs.Machine.{Part, takes, skips, wrong, deep, part_on, atom_on, comma_on, word_on, run, Outcome, ended, stopped, sank, same, may_be_empty, is_first, power_on, post_on, a_value, a_later, a_sum, adds, a_term, muls, a_signed, a_power, a_postfix, an_atom, posts, a_post, args, after_name, an_arg, a_word, both_are, arg_on, name_on, token}
+use Rattle.ufl_syntax.proofs.Steps.{run_begins, moves_term, run_takes, run_skips, run_may, run_short, run_wrong, run_deep}
 use Rattle.ufl_read.specs.declared.tokens.Fault.{Fault}
 use Rattle.ufl_read.specs.declared.tokens.Fault.TheVariants as f
-use Rattle.ufl_read.specs.Reads.{Fails, unnamed_fault}
+use Rattle.ufl_read.specs.Reads.{Fails, EndsTerm, ends_term, unnamed_fault}
 
 pub short_at : (q : Part) (stack : List Part) (ts : List Lexeme) → ts ≡ [] → may_be_empty q ≡ false → run (q ∷ stack) ts ≡ ended false
 short_at q stack ts e h = ap (run (q ∷ stack)) e ∙ run_short q stack h
@@ -297,3 +295,23 @@ unnamed_fails (suc n) k.Open stack all at t us e h x = stop_at (a_word (suc n)) 
 unnamed_fails zero k.OpenList stack all at t us e h x = sink_at (a_word zero) stack (drop at all) t us e (ap (word_on zero) h)
 unnamed_fails (suc n) k.OpenList stack all at t us e h x = stop_at (a_word (suc n)) stack (drop at all) t us e (ap (word_on (suc n)) h)
 unnamed_fails n j stack all at t us e h x = stop_at (a_word n) stack (drop at all) t us e (ap (word_on n) h)
+
+pub one_token : (n : ℕ) (ts us : List Lexeme) (t : Lexeme) (e : Syn) → ts ≡ t ∷ us → Atom n (t ∷ us) e us → Term n ts e us
+one_token n ts us t e h a = subst (λ l. Term n l e us) (sym h) (term (plain (postfix a no_post)) no_mul)
+
+more_not : (j : Class) → ends_term j ≡ true → more_term j ≡ false
+more_not k.Times h = cc
+more_not k.Divide h = cc
+more_not k.Power h = cc
+more_not k.Open h = cc
+more_not k.OpenList h = cc
+more_not k.Dot h = cc
+more_not _ h = refl
+
+term_ended : (ts : List Lexeme) → EndsTerm ts → Ends more_term ts
+term_ended [] h = tt
+term_ended (t ∷ ts) h = more_not t.class h
+
+-- a term behind which it doesn't go on
+pub short_run : (n : ℕ) (ts us : List Lexeme) (e : Syn) (stack : List Part) → Term n ts e us → EndsTerm us → run (a_term n ∷ stack) ts ≡ run stack us
+short_run n ts us e stack d h = c_term d (term_ended us h) stack

@@ -7,9 +7,9 @@ use Rattle.ufl_syntax.specs.declared.tree.AssignOp.{AssignOp}
 use Rattle.ufl_syntax.specs.declared.tree.AssignOp.TheVariants as o
 use Rattle.ufl_syntax.specs.declared.tree.Stmt.{Stmt}
 use Rattle.ufl_syntax.specs.declared.tree.Syn.{Syn}
-use Rattle.ufl_syntax.specs.Grammar.{Value, File, updates}
+use Rattle.ufl_syntax.specs.Grammar.{Value, File}
 use Rattle.ufl_syntax.specs.Refusal.{Begins, IsRefused, IsWrong, IsTooDeep}
-use Rattle.ufl_syntax.specs.Machine.{Part, Outcome, ended, stopped, sank, run, may_be_empty, all_may, a_value, a_word, after_target, token}
+use Rattle.ufl_syntax.specs.Machine.{Part, Outcome, ended, stopped, sank, run, may_be_empty, a_value, a_word, after_target, token}
 use Rattle.ufl_read.specs.declared.tokens.Fault.{Fault}
 use Rattle.ufl_read.specs.declared.tokens.Fault.TheVariants as f
 
@@ -38,6 +38,20 @@ ReadsAll AreParts place parts all at (Err e) = (stack : List Part) → Fails all
 abbrev pub Room : ℕ → ℕ → Result ℕ Fault → Type 0
 Room n at (Ok m) = n ≡ suc m
 Room n at (Err e) = (n ≡ 0) × (e ≡ f.Deep at)
+
+-- a token that doesn't belong to the term before it
+abbrev pub ends_term : Class → Bool
+ends_term k.Times = false
+ends_term k.Divide = false
+ends_term k.Power = false
+ends_term k.Open = false
+ends_term k.OpenList = false
+ends_term k.Dot = false
+ends_term _ = true
+
+abbrev pub EndsTerm : List Lexeme → Type 0
+EndsTerm [] = Unit {0}
+EndsTerm (t ∷ ts) = ends_term t.class ≡ true
 
 abbrev pub IsWord : Lexeme → Type 0
 IsWord t = (b : Bool) × (t.class ≡ k.Name b)

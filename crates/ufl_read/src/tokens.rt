@@ -3,7 +3,7 @@
 ghost use Rattle.std.specs.Prelude.{[], ◌∷◌, ◌≡◌, ◌+◌, ◌<◌, length, drop, true, MatchOption};
 ghost use Rattle.ufl_syntax.specs.Grammar.{is_sign, is_factor};
 ghost use Rattle.ufl_syntax.specs.Machine.{both_are, is_first, is_post, same as same_class, token, a_word};
-ghost use Rattle.ufl_read.specs.Reads.{Reads, Room, IsWord, unnamed_fault};
+ghost use Rattle.ufl_read.specs.Reads.{Reads, Room, IsWord, ends_term as is_end_of_term, unnamed_fault};
 
 use std::alloc::AllocError;
 use ufl_syntax::{Class, Lexeme};
@@ -71,6 +71,17 @@ pub fn follows(class: Class) -> bool
     match class {
         Class::Open | Class::OpenList | Class::Dot => true,
         _ => false,
+    }
+}
+
+// Whether it doesn't belong to a term before it.
+pub fn ends_term(class: Class) -> bool
+    ensures { result ≡ is_end_of_term class }
+{
+    match class {
+        Class::Times | Class::Divide | Class::Power | Class::Open | Class::OpenList | Class::Dot =>
+            false,
+        _ => true,
     }
 }
 

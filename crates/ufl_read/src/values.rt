@@ -1,21 +1,23 @@
 // Values by recursive descent: a function for each part of the grammar, which answers the part and the place after it.
 // `room` is how many brackets, signs and `**` may still be open inside.
 
-ghost use Rattle.std.specs.Prelude.{[], ◌∷◌, ◌++◌, ◌≡◌, List, IfOk};
+ghost use Rattle.std.specs.Prelude.{[], ◌∷◌, ◌++◌, ◌≡◌, ◌+◌, ◌<◌, ℕ, List, true, drop, length, IfOk, IfSome};
 ghost use Rattle.ufl_syntax.specs.Grammar.{Value, Later, Sum, Term, Signed, Postfix, OnePost, Args, OneArg, Atom};
 ghost use Rattle.ufl_syntax.specs.Grammar.{chain as as_chain, applied as as_applied};
 ghost use Rattle.ufl_syntax.specs.Machine.{a_value, a_later, a_sum, a_term, a_signed, a_postfix, an_atom, a_post, args, an_arg};
 ghost use Rattle.ufl_syntax.specs.declared.tree.Syn.{Syn};
-ghost use Rattle.ufl_read.specs.Reads.{Reads};
+ghost use Rattle.ufl_read.specs.Reads.{Reads, EndsTerm};
 
 use crate::tokens::{
-    Fault, deeper, expect, expect_name, factors, follows, keyed, peek, same, signs, starts,
+    Fault, deeper, ends_term, expect, expect_name, factors, follows, keyed, peek, same, signs,
+    starts,
 };
 use sqlite_items::{Boxed, Items};
 use std::alloc::{AllocError, Global};
 use ufl_syntax::{Arg, Class, Lexeme, Next, Post, Syn};
 
 // A chain of one part is that part.
+#[inline(always)]
 fn chained<'a>(alloc: Global, first: Syn<'a>, chain: Items<Next<'a>>) -> Result<Syn<'a>, AllocError>
     ensures { IfOk result (λ e. e ≡ as_chain first.entry chain.entry) }
 {
@@ -25,6 +27,7 @@ fn chained<'a>(alloc: Global, first: Syn<'a>, chain: Items<Next<'a>>) -> Result<
     Ok(Syn::Binary(Boxed::new(alloc, first)?, chain))
 }
 
+#[inline(always)]
 fn applied<'a>(alloc: Global, first: Syn<'a>, all: Items<Post<'a>>) -> Result<Syn<'a>, AllocError>
     ensures { IfOk result (λ e. e ≡ as_applied first.entry all.entry) }
 {
@@ -88,6 +91,50 @@ fn later<'a>(
     }
 }
 
+// Whether no term before this place goes on there.
+fn is_end_of_term(tokens: &[Lexeme<'_>], at: usize) -> bool
+    ensures { result ≡ true → EndsTerm (drop at tokens.now) }
+{
+    match peek(tokens, at) {
+        Some(next) => ends_term(next.class),
+        None => true,
+    }
+}
+
+// The term that is one token.
+fn short_term<'a>(tokens: &[Lexeme<'a>], at: usize) -> Option<Syn<'a>>
+    ensures within { IfSome result (λ e. at < length tokens.now) }
+    ensures term { IfSome result (λ e. (room : ℕ) → Term room (drop at tokens.now) e (drop (at + 1) tokens.now)) }
+    ensures ended { IfSome result (λ e. EndsTerm (drop (at + 1) tokens.now)) }
+{
+    let first = peek(tokens, at)?;
+    if !is_end_of_term(tokens, at + 1) {
+        return None;
+    }
+    match first.class {
+        Class::Name(_) => Some(Syn::Name(first.tok)),
+        Class::Number => Some(Syn::Number(first.tok)),
+        Class::Text => Some(Syn::Text(first.tok)),
+        _ => None,
+    }
+}
+
+// Most terms are one token; these are read without a call for each level below.
+#[cycle(reader)]
+fn term<'a>(
+    alloc: Global,
+    tokens: &[Lexeme<'a>],
+    at: usize,
+    room: u32,
+) -> Result<(Syn<'a>, usize), Fault>
+    ensures { Reads (λ r ts rest. Term room ts r.0 rest) (λ r. r.1) (a_term room) tokens.now at result }
+{
+    if let Some(short) = short_term(tokens, at) {
+        return Ok((short, at + 1));
+    }
+    long_term(alloc, tokens, at, room)
+}
+
 #[cycle(reader)]
 fn sum<'a>(
     alloc: Global,
@@ -114,7 +161,7 @@ fn sum<'a>(
 }
 
 #[cycle(reader)]
-fn term<'a>(
+fn long_term<'a>(
     alloc: Global,
     tokens: &[Lexeme<'a>],
     from: usize,
@@ -196,6 +243,7 @@ fn postfix<'a>(
 }
 
 #[cycle(reader)]
+#[inline(never)]
 fn post<'a>(
     alloc: Global,
     tokens: &[Lexeme<'a>],

@@ -1,5 +1,5 @@
 -- The room that is left is the limit less what is open.
-use Rattle.std.proofs.Common.{[], ◌∷◌, ◌++◌, ◌≡◌, ◌≤◌, ◌<◌, ◌+◌, true, false, Bool, List, ℕ, zero, suc, length, refl, sym, ap, subst, ◌∙◌, append_assoc, arith}
+use Rattle.std.proofs.Common.{[], ◌∷◌, ◌++◌, ◌≡◌, ◌≤◌, ◌+◌, true, false, Bool, List, ℕ, zero, suc, length, refl, sym, ap, subst, ◌∙◌, append_assoc, arith}
 use Rattle.std.proofs.lemmas.List.{length-append}
 use Rattle.ufl_syntax.specs.declared.class.Class.{Class}
 use Rattle.ufl_syntax.specs.declared.class.Class.TheVariants as k

@@ -1,10 +1,9 @@
 -- There is one refused token, and one refusal of it.
-use Rattle.std.proofs.Common.{[], ◌∷◌, ◌++◌, ◌≡◌, ◌≤◌, ◌<◌, ◌⊎◌, inl, inr, true, false, Bool, List, ℕ, zero, suc, refl, sym, ap, subst, ◌∙◌, append_assoc, append-nil, arith}
+use Rattle.std.proofs.Common.{[], ◌∷◌, ◌++◌, ◌≡◌, ◌<◌, ◌⊎◌, inl, inr, true, List, ℕ, refl, sym, ap, subst, ◌∙◌, append_assoc, arith}
 use Rattle.ufl_syntax.specs.declared.class.Lexeme.{Lexeme}
-use Rattle.ufl_syntax.specs.declared.tree.Stmt.{Stmt}
 use Rattle.ufl_syntax.specs.Grammar.{File}
 use Rattle.ufl_syntax.specs.Depth.{depth_at}
-use Rattle.ufl_syntax.specs.Refusal.{Begins, BeginsAny, BeginsNone, IsRefused, IsWrong, IsTooDeep, is_opening}
+use Rattle.ufl_syntax.specs.Refusal.{Begins, BeginsAny, IsRefused, IsWrong, IsTooDeep, is_opening}
 
 heads : (x y : Lexeme) (s t : List Lexeme) → x ∷ s ≡ y ∷ t → (x ≡ y) × (s ≡ t)
 heads x y s t e = (cc, cc)

@@ -1,5 +1,5 @@
 -- The refused token, in the words of the grammar.
-use Rattle.std.proofs.Common.{[], ◌∷◌, ◌++◌, ◌≡◌, ◌≤◌, ◌<◌, ◌+◌, ◌⊎◌, inl, inr, true, false, Bool, List, ℕ, zero, suc, refl, sym, ap, subst, ◌∙◌, append_assoc, append-nil, arith}
+use Rattle.std.proofs.Common.{[], ◌∷◌, ◌++◌, ◌≡◌, ◌≤◌, ◌<◌, ◌+◌, ◌⊎◌, inl, inr, true, Bool, List, ℕ, zero, suc, refl, sym, ap, subst, ◌∙◌, append_assoc, append-nil, arith}
 use Rattle.ufl_syntax.specs.declared.class.Class.TheVariants as k
 use Rattle.ufl_syntax.specs.declared.class.Lexeme.{Lexeme}
 use Rattle.ufl_syntax.specs.declared.tree.Stmt.{Stmt}
@@ -9,7 +9,7 @@ use Rattle.ufl_syntax.specs.Machine.{run, all_may, Outcome, ended, stopped, sank
 use Rattle.ufl_syntax.specs.Machine as m
 use Rattle.ufl_syntax.specs.Refusal.{Begins, BeginsAny, BeginsNone, IsRefused, IsWrong, IsTooDeep, is_opening}
 use Rattle.ufl_syntax.proofs.Words.{All}
-use Rattle.ufl_syntax.proofs.Viable.{Refuses, refuses, Sinks, sinks, ends, whole, split, sinks_one}
+use Rattle.ufl_syntax.proofs.Viable.{refuses, sinks, ends, whole, split, sinks_one}
 use Rattle.ufl_syntax.proofs.Room.{lifts, Surfaces, stopped_lifts, sank_lifts, ended_lifts}
 use Rattle.ufl_syntax.proofs.Depth.{depth_sunk, depth_wrong, depth_held, line_closed, fits_start}
 use Rattle.ufl_syntax.proofs.Complete.{no_file, no_file_deep, runs_whole}

@@ -1,5 +1,5 @@
 -- With one more bracket, sign or `**` open, the machine does the same, until there it was too deep.
-use Rattle.std.proofs.Common.{[], ◌∷◌, ◌++◌, ◌≡◌, ◌≤◌, ◌+◌, true, false, Bool, List, ◌⊎◌, inl, inr, ℕ, zero, suc, length, refl, sym, ap, subst, ◌∙◌, arith}
+use Rattle.std.proofs.Common.{[], ◌∷◌, ◌++◌, ◌≡◌, ◌≤◌, true, false, Bool, List, ◌⊎◌, inl, inr, ℕ, zero, suc, length, refl, sym, ap, subst, ◌∙◌, arith}
 use Rattle.ufl_syntax.specs.declared.class.Class.{Class}
 use Rattle.ufl_syntax.specs.declared.class.Class.TheVariants as k
 use Rattle.ufl_syntax.specs.declared.class.Lexeme.{Lexeme}

@@ -231,6 +231,7 @@ fn sign_class(sign: &[u8]) -> Class
 
 impl<'a> Lexeme<'a> {
     /// The token with its class.
+    #[inline(always)]
     pub fn new(tok: Tok<'a>) -> Lexeme<'a>
         ensures { result ≡ lexeme_of tok.entry }
     {

@@ -1,4 +1,4 @@
-use Rattle.std.proofs.Common.{◌≡◌, ◌∙◌, sym, ap, subst, Some, arith}
+use Rattle.std.proofs.Common.{◌∙◌, sym, ap, subst, arith}
 use Rattle.ufl_read.specs.declared.tokens.Fault.TheVariants as f
 use Rattle.slices.specs.FormTokens.{Scan, form_begins}
 use Rattle.ufl_read.specs.Refusals.{IsFormRefusal, refusal_for}

@@ -1,4 +1,4 @@
-use Rattle.std.proofs.Common.{[], ◌∷◌, ◌++◌, ◌≡◌, ◌∙◌, ap, subst, Some}
+use Rattle.std.proofs.Common.{[], ◌∷◌, ◌++◌, ◌∙◌, ap, subst, Some}
 use Rattle.slices.specs.FormTokens.{IsFormStep}
 use Rattle.ufl_read.proofs.Whole.{scanned_none, scanned_lost, scanned_more}
 use Rattle.ufl_read.proofs.file.read_tokens.Goals as goal

@@ -1,4 +1,4 @@
-use Rattle.std.proofs.Common.{◌≡◌, sym, ◌∙◌, ap}
+use Rattle.std.proofs.Common.{sym, ◌∙◌, ap}
 use Rattle.ufl_read.specs.Refusals.{line_or}
 use Rattle.ufl_read.proofs.Whole.{line_at_end}
 use Rattle.ufl_read.proofs.refusal.statement_line.Goals as goal

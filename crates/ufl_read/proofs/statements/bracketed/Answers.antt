@@ -1,6 +1,6 @@
-use Rattle.std.proofs.Common.{[], ◌∷◌, ◌++◌, ◌≡◌, ◌<◌, ◌∙◌, sym, arith}
+use Rattle.std.proofs.Common.{◌∷◌, ◌++◌, ◌∙◌, sym, arith}
 use Rattle.ufl_syntax.specs.declared.class.Class.TheVariants as k
-use Rattle.ufl_syntax.specs.Machine.{run, after_target, token}
+use Rattle.ufl_syntax.specs.Machine.{after_target, token}
 use Rattle.ufl_syntax.proofs.Words.{same_is}
 use Rattle.ufl_read.specs.Reads.{assigned_parts}
 use Rattle.ufl_read.proofs.Lines.{bracket_statement}

@@ -1,6 +1,6 @@
-use Rattle.std.proofs.Common.{[], ◌∷◌, ◌≡◌, ◌≤◌, ◌∙◌, sym, ap, refl, arith}
+use Rattle.std.proofs.Common.{[], ◌∷◌, ◌∙◌, sym, ap, refl, arith}
 use Rattle.ufl_syntax.specs.declared.class.Class.TheVariants as k
-use Rattle.ufl_syntax.specs.Machine.{run, names_on, comma_on, later_names, after_target}
+use Rattle.ufl_syntax.specs.Machine.{names_on, comma_on, later_names, after_target}
 use Rattle.ufl_syntax.proofs.Words.{same_is}
 use Rattle.ufl_read.proofs.Turns.{end_at, skip_at, take_at, comma_not}
 use Rattle.ufl_read.proofs.Lines.{names_end, names_last, names_more, no_name_on}

@@ -1,7 +1,4 @@
-use Rattle.std.proofs.Common.{◌++◌, ◌≡◌, ◌≤◌, length, drop, List, ℕ, ◌-◌, ◌∷◌}
-use Rattle.slices.specs.declared.toks.Tok.{Tok}
-use Rattle.ufl_syntax.specs.declared.class.Lexeme.{Lexeme}
-use Rattle.ufl_syntax.specs.Grammar.{LaterNames}
+use Rattle.std.proofs.Common.{◌≡◌, ◌≤◌, length, drop, List, ◌-◌, ◌∷◌}
 use Rattle.ufl_syntax.specs.Machine.{Part, run, later_names}
 use Rattle.ufl_read.proofs.Lines.{NamesGrow}
 use Rattle.ufl_read.proofs.statements.later_targets.Given as goal

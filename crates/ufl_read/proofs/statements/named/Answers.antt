@@ -1,7 +1,7 @@
-use Rattle.std.proofs.Common.{[], ◌∷◌, ◌++◌, ◌≡◌, ◌<◌, ◌∙◌, sym, ap, refl, arith}
+use Rattle.std.proofs.Common.{◌∷◌, ◌++◌, ◌∙◌, sym, ap, refl, arith}
 use Rattle.std.proofs.lemmas.Result.{err_from_is_err_and}
 use Rattle.ufl_syntax.specs.declared.class.Class.TheVariants as k
-use Rattle.ufl_syntax.specs.Machine.{run, after_first, later_names, first_on, token}
+use Rattle.ufl_syntax.specs.Machine.{after_first, later_names, first_on}
 use Rattle.ufl_syntax.proofs.Words.{same_is}
 use Rattle.ufl_read.specs.Reads.{ended_parts, assigned_parts}
 use Rattle.ufl_read.proofs.Turns.{short_at, take_at, stop_at, along}

@@ -1,6 +1,6 @@
-use Rattle.std.proofs.Common.{[], ◌∷◌, ◌++◌, ◌≡◌, ◌<◌, ◌≤◌, ◌∙◌, sym, ap, refl, arith}
+use Rattle.std.proofs.Common.{[], ◌∷◌, ◌∙◌, arith}
 use Rattle.std.proofs.lemmas.Result.{err_from_is_err_and}
-use Rattle.ufl_syntax.specs.Machine.{run, statements}
+use Rattle.ufl_syntax.specs.Machine.{statements}
 use Rattle.ufl_syntax.proofs.Unique.{one_reading}
 use Rattle.ufl_read.proofs.Turns.{along}
 use Rattle.ufl_read.proofs.Lines.{all_read, one_more, next_statement, something_left, refusal_from}

@@ -1,8 +1,7 @@
-use Rattle.std.proofs.Common.{[], ◌∷◌, ◌++◌, ◌≡◌, ◌<◌, ◌∙◌, drop, sym, ap, refl, subst, arith}
+use Rattle.std.proofs.Common.{◌∙◌, ap, refl, arith}
 use Rattle.std.proofs.lemmas.Result.{err_from_is_err_and}
-use Rattle.ufl_syntax.specs.declared.class.Class.TheVariants as k
-use Rattle.ufl_syntax.specs.Machine.{run, a_statement, after_first, statement_on, token}
-use Rattle.ufl_read.specs.Reads.{import_parts, bracket_parts}
+use Rattle.ufl_syntax.specs.Machine.{a_statement, statement_on}
+use Rattle.ufl_read.specs.Reads.{import_parts}
 use Rattle.ufl_read.proofs.Turns.{short_at, take_at, stop_at, along}
 use Rattle.ufl_read.proofs.Lines.{import_statement, no_statement_on, reads_first, reads_bracket}
 use Rattle.ufl_read.proofs.statements.statement.Goals as goal

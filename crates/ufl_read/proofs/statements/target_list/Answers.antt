@@ -1,7 +1,7 @@
-use Rattle.std.proofs.Common.{[], ◌∷◌, ◌≡◌, ◌≤◌, ◌∙◌, sym, ap, refl, arith}
+use Rattle.std.proofs.Common.{[], ◌∷◌, ◌∙◌, sym, ap, refl, arith}
 use Rattle.std.proofs.lemmas.Result.{err_from_is_err_and}
 use Rattle.ufl_syntax.specs.declared.class.Class.TheVariants as k
-use Rattle.ufl_syntax.specs.Machine.{run, comma_on, later_names, after_target}
+use Rattle.ufl_syntax.specs.Machine.{comma_on, later_names, after_target}
 use Rattle.ufl_syntax.proofs.Words.{same_is}
 use Rattle.ufl_read.proofs.Turns.{end_at, skip_at, take_at, along, comma_not}
 use Rattle.ufl_read.proofs.Lines.{one_of_names, several_of_names}

@@ -1,4 +1,4 @@
-use Rattle.std.proofs.Common.{[], ◌∷◌, ◌≡◌, ◌∙◌, sym, ap, refl, false, true, arith}
+use Rattle.std.proofs.Common.{[], ◌∙◌, sym, ap, refl, arith}
 use Rattle.ufl_syntax.specs.Machine.{token, if_same}
 use Rattle.ufl_read.proofs.Turns.{short_at, take_at, stop_at}
 use Rattle.ufl_read.proofs.tokens.expect.Goals as goal

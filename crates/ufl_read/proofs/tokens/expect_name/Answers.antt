@@ -1,4 +1,4 @@
-use Rattle.std.proofs.Common.{[], ◌∷◌, ◌≡◌, ◌∙◌, sym, ap, refl, subst, drop, arith}
+use Rattle.std.proofs.Common.{[], ◌∷◌, sym, ap, refl, subst, drop, arith}
 use Rattle.ufl_syntax.specs.Machine.{a_word, word_on, run}
 use Rattle.ufl_read.specs.Reads.{Fails}
 use Rattle.ufl_read.proofs.Turns.{short_at, take_at, unnamed_fails}

@@ -1,14 +1,12 @@
-use Rattle.std.proofs.Common.{[], ◌∷◌, ◌++◌, ◌≡◌, ◌≤◌, ◌∙◌, sym, ap, subst, refl, false, true, arith, List, drop, ℕ, ◌+◌}
+use Rattle.std.proofs.Common.{[], ◌∷◌, ◌++◌, ◌≡◌, ◌∙◌, sym, ap, subst, refl, false, true, arith, drop, ◌+◌}
 use Rattle.std.proofs.lemmas.Result.{err_from_is_err_and}
 use Rattle.ufl_syntax.specs.declared.class.Class.TheVariants as k
-use Rattle.ufl_syntax.specs.declared.class.Lexeme.{Lexeme}
 use Rattle.ufl_syntax.specs.declared.tree.Syn.TheVariants as s
-use Rattle.ufl_syntax.specs.Grammar.{positional, chain, applied, plain, Posts, Args, Value, single, tuple, Sum, sum, Adds, no_add, add, Muls, Atom, a_name, a_number, a_text, bracketed}
-use Rattle.ufl_syntax.specs.Machine.{Part, run, part_on, comma_on, a_value, a_later, after_sum, a_sum, adds, a_term, muls, a_signed, a_power, posts, a_post, args, after_arg, an_arg, a_word, is_first, is_post, post_on, an_atom, token, takes}
+use Rattle.ufl_syntax.specs.Grammar.{positional, chain, applied, plain, Posts, Args, single, Adds, Muls, Atom, a_name, a_number, a_text}
+use Rattle.ufl_syntax.specs.Machine.{part_on, comma_on, a_value, a_later, after_sum, adds, a_term, muls, a_signed, a_power, posts, a_post, args, after_arg, an_arg, a_word, is_first, is_post, post_on, an_atom, token}
 use Rattle.ufl_syntax.proofs.Words.{same_is}
-use Rattle.ufl_syntax.proofs.Complete.{value_begins, sum_begins, term_begins, NotAssign, postfix_begins, posts_begins, posts_skip, later_begins, args_begins, add_on, mul_on}
-use Rattle.ufl_read.specs.Reads.{Fails}
-use Rattle.ufl_read.proofs.Turns.{short_at, end_at, skip_at, take_at, stop_at, sink_at, sunk, along, comma_not, sign_not, factor_not, atom_deep, atom_open, list_deep, list_open, list_at, atom_wrong, Keyed, NotKeyed, keyed_at, keyed_arg, keyed_run, unkeyed, not_assign_some, not_assign_none, heads_at, signed_deep, signed_open, plain_at, power_not, power_deep, power_open, signed_at, power_at, postfix_at, posted_at, later_not, args_not, later_end, later_last, later_more, args_end, args_last, args_more, tuple_at, post_deep, post_open, index_deep, index_open, post_wrong, call_at, index_at, attr_at, bracketed_at, sum_at, added_at, term_at, multiplied_at}
+use Rattle.ufl_syntax.proofs.Complete.{value_begins, sum_begins, term_begins, postfix_begins, posts_begins, posts_skip, later_begins, args_begins, add_on, mul_on}
+use Rattle.ufl_read.proofs.Turns.{short_run, short_at, end_at, skip_at, take_at, stop_at, sink_at, sunk, along, comma_not, sign_not, factor_not, atom_deep, atom_open, list_deep, list_open, list_at, atom_wrong, Keyed, NotKeyed, keyed_at, keyed_arg, keyed_run, unkeyed, not_assign_some, not_assign_none, heads_at, signed_deep, signed_open, plain_at, power_not, power_deep, power_open, signed_at, power_at, postfix_at, posted_at, later_not, args_not, later_end, later_last, later_more, args_end, args_last, args_more, tuple_at, post_deep, post_open, index_deep, index_open, post_wrong, call_at, index_at, attr_at, bracketed_at, sum_at, added_at, term_at, multiplied_at}
 use Rattle.ufl_read.proofs.values.+reader.Goals as goal
 use Rattle.ufl_read.proofs.values.+reader.Goals.{argument-in-Some-peek, argument-in-None}
 
@@ -77,16 +75,16 @@ sum-returns-in_err-first t c =
     let p = err_from_is_err_and c.from_residual.result c.from_residual.ensures.1 in
     rw (p.1, p.2) (λ stack. along c.args.tokens.now _ _ _ (sum_begins c.args.room stack _) (c.in_err-first.ensures (adds c.args.room ∷ stack)))
 
-pub term-returns-in_err-first : goal.term-returns-in_err-first
-term-returns-in_err-first t c =
+pub long_term-returns-in_err-first : goal.long_term-returns-in_err-first
+long_term-returns-in_err-first t c =
     let p = err_from_is_err_and c.from_residual.result c.from_residual.ensures.1 in
     rw (p.1, p.2) (λ stack. along c.args.tokens.now _ _ _ (term_begins c.args.room stack _) (c.in_err-first.ensures (muls c.args.room ∷ stack)))
 
 pub sum-all-init : goal.sum-all-init
 sum-all-init t c = (omega arith, λ ns rest h. subst (λ l. Adds c.args.room (drop c.in_ok-first.past c.args.tokens.now) (l ++ ns) rest) (sym c.new-chain.ensures) h, λ stack. refl, refl)
 
-pub term-all-init : goal.term-all-init
-term-all-init t c = (omega arith, λ ns rest h. subst (λ l. Muls c.args.room (drop c.in_ok-first.past c.args.tokens.now) (l ++ ns) rest) (sym c.new-chain.ensures) h, λ stack. refl, refl)
+pub long_term-all-init : goal.long_term-all-init
+long_term-all-init t c = (omega arith, λ ns rest h. subst (λ l. Muls c.args.room (drop c.in_ok-first.past c.args.tokens.now) (l ++ ns) rest) (sym c.new-chain.ensures) h, λ stack. refl, refl)
 
 pub sum-returns-in_default : goal.sum-returns-in_default
 sum-returns-in_default t c =
@@ -96,8 +94,8 @@ sum-returns-in_default t c =
       λ stack. sum_begins c.args.room stack _ ∙ first.2 (adds c.args.room ∷ stack) ∙ c.all.invariant.2 stack ∙ end_at (adds c.args.room) stack _ c.in_default.ensures refl,
     )
 
-pub term-returns-in_default : goal.term-returns-in_default
-term-returns-in_default t c =
+pub long_term-returns-in_default : goal.long_term-returns-in_default
+long_term-returns-in_default t c =
     let first = c.in_ok-first.ensures in (
       omega (arith, first.0, c.all.invariant.0),
       term_at c.args.room _ _ _ _ _ _ (c.in_ok-chained.ensures ∙ ap (λ e. chain e c.all.chain) c.all.invariant.3) first.1 c.all.invariant.1,
@@ -113,8 +111,8 @@ sum-returns-then-not-signs t c =
           ∙ skip_at (adds c.args.room) stack _ c.in-Some.op _ c.in-Some.ensures.0 (sign_not c.args.room c.in-Some.op.class (sym c.signs.ensures ∙ c.if-not-signs.true)),
     )
 
-pub term-returns-then-not-factors : goal.term-returns-then-not-factors
-term-returns-then-not-factors t c =
+pub long_term-returns-then-not-factors : goal.long_term-returns-then-not-factors
+long_term-returns-then-not-factors t c =
     let first = c.in_ok-first.ensures in (
       omega (arith, first.0, c.all.invariant.0),
       term_at c.args.room _ _ _ _ _ _ (c.in_ok-chained-2.ensures ∙ ap (λ e. chain e c.all.chain) c.all.invariant.3) first.1 c.all.invariant.1,
@@ -131,8 +129,8 @@ sum-returns-in_err-right t c =
     ∙ take_at (adds c.args.room) stack _ c.in-Some.op _ (a_term c.args.room ∷ adds c.args.room ∷ []) c.in-Some.ensures.0 (add_on c.args.room c.in-Some.op.class (sym c.signs.ensures ∙ c.if-not-signs.false)))
     (c.in_err-right.ensures (adds c.args.room ∷ stack)))
 
-pub term-returns-in_err-right : goal.term-returns-in_err-right
-term-returns-in_err-right t c =
+pub long_term-returns-in_err-right : goal.long_term-returns-in_err-right
+long_term-returns-in_err-right t c =
     let p = err_from_is_err_and c.from_residual-in_err-right.result c.from_residual-in_err-right.ensures.1 in
     let first = c.in_ok-first.ensures in
     rw (p.1, p.2) (λ stack. along c.args.tokens.now _ _ _
@@ -143,8 +141,8 @@ term-returns-in_err-right t c =
 pub sum-all-smaller : goal.sum-all-smaller
 sum-all-smaller t c = omega (arith, c.in-Some.ensures.1, c.in_ok-right.ensures.0)
 
-pub term-all-smaller : goal.term-all-smaller
-term-all-smaller t c = omega (arith, c.in-Some.ensures.1, c.in_ok-right.ensures.0)
+pub long_term-all-smaller : goal.long_term-all-smaller
+long_term-all-smaller t c = omega (arith, c.in-Some.ensures.1, c.in_ok-right.ensures.0)
 
 pub sum-all-preserved : goal.sum-all-preserved
 sum-all-preserved t c =
@@ -158,8 +156,8 @@ sum-all-preserved t c =
       c.all.invariant.3,
     )
 
-pub term-all-preserved : goal.term-all-preserved
-term-all-preserved t c =
+pub long_term-all-preserved : goal.long_term-all-preserved
+long_term-all-preserved t c =
     let right = c.in_ok-right.ensures in
     let is_add = sym c.factors.ensures ∙ c.if-not-factors.false in (
       omega (arith, c.all.invariant.0, right.0),
@@ -169,6 +167,11 @@ term-all-preserved t c =
           ∙ right.2 (muls c.args.room ∷ stack),
       c.all.invariant.3,
     )
+
+pub term-returns-in-Some : goal.term-returns-in-Some
+term-returns-in-Some t c =
+    let short = c.in-Some.ensures.term c.args.room in
+    (omega arith, short, λ stack. short_run c.args.room _ _ _ stack short c.in-Some.ensures.ended)
 
 -- value
 

@@ -1,4 +1,4 @@
-use Rattle.std.proofs.Common.{[], ◌∷◌, ◌++◌, ◌≡◌, ◌+◌, ◌<◌, ◌≤◌, true, length, drop, List, ℕ, ◌-◌, ◌*◌}
+use Rattle.std.proofs.Common.{◌∷◌, ◌++◌, ◌≡◌, ◌+◌, ◌≤◌, length, drop, List, ◌-◌, ◌*◌}
 use Rattle.ufl_syntax.specs.declared.class.Lexeme.{Lexeme}
 use Rattle.ufl_syntax.specs.declared.tree.Syn.{Syn}
 use Rattle.ufl_syntax.specs.declared.tree.Next.{Next}
@@ -9,34 +9,37 @@ use Rattle.ufl_syntax.specs.Machine.{Part, run, a_later, adds, muls, posts, args
 use Rattle.ufl_read.proofs.values.+reader.Given as goal
 
 abbrev pub decreases-argument : goal.decreases-argument
-decreases-argument l = l.room * 7 + 5
+decreases-argument l = l.room * 8 + 6
 
 abbrev pub decreases-arguments : goal.decreases-arguments
-decreases-arguments l = l.room * 7 + 6
+decreases-arguments l = l.room * 8 + 7
 
 abbrev pub decreases-atom : goal.decreases-atom
-decreases-atom l = l.room * 7
+decreases-atom l = l.room * 8
 
 abbrev pub decreases-later : goal.decreases-later
-decreases-later l = l.room * 7 + 5
+decreases-later l = l.room * 8 + 6
 
 abbrev pub decreases-post : goal.decreases-post
-decreases-post l = l.room * 7
+decreases-post l = l.room * 8
 
 abbrev pub decreases-postfix : goal.decreases-postfix
-decreases-postfix l = l.room * 7 + 1
+decreases-postfix l = l.room * 8 + 1
 
 abbrev pub decreases-signed : goal.decreases-signed
-decreases-signed l = l.room * 7 + 2
+decreases-signed l = l.room * 8 + 2
 
 abbrev pub decreases-sum : goal.decreases-sum
-decreases-sum l = l.room * 7 + 4
+decreases-sum l = l.room * 8 + 5
 
 abbrev pub decreases-term : goal.decreases-term
-decreases-term l = l.room * 7 + 3
+decreases-term l = l.room * 8 + 4
+
+abbrev pub decreases-long_term : goal.decreases-long_term
+decreases-long_term l = l.room * 8 + 3
 
 abbrev pub decreases-value : goal.decreases-value
-decreases-value l = l.room * 7 + 6
+decreases-value l = l.room * 8 + 7
 
 abbrev pub invariant-arguments-all : goal.invariant-arguments-all
 invariant-arguments-all l =
@@ -77,12 +80,12 @@ invariant-sum-all l =
 abbrev pub decreases-sum-all : goal.decreases-sum-all
 decreases-sum-all l = length l.tokens - l.at
 
-abbrev pub invariant-term-all : goal.invariant-term-all
-invariant-term-all l =
+abbrev pub invariant-long_term-all : goal.invariant-long_term-all
+invariant-long_term-all l =
     (l.past ≤ l.at)
     × ((ns : List Next) (rest : List Lexeme) → Muls l.room (drop l.at l.tokens) ns rest → Muls l.room (drop l.past l.tokens) (l.chain ++ ns) rest)
     × ((stack : List Part) → run (muls l.room ∷ stack) (drop l.past l.tokens) ≡ run (muls l.room ∷ stack) (drop l.at l.tokens))
     × (l.first ≡ l.initial.first)
 
-abbrev pub decreases-term-all : goal.decreases-term-all
-decreases-term-all l = length l.tokens - l.at
+abbrev pub decreases-long_term-all : goal.decreases-long_term-all
+decreases-long_term-all l = length l.tokens - l.at
