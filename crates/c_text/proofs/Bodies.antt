@@ -1,11 +1,11 @@
 -- Statements and loops
-use Rattle.std.proofs.Common.{◌≡◌, refl, sym, ◌∙◌, ap, ℕ, zero, suc, ◌+◌, ◌-◌, ◌<◌, ◌≤◌, Bool, true, false, ◌&&◌, ◌||◌, nat_lt, if◌then◌else◌, List, [], ◌∷◌, length, codes, Ok, subst, arith}
-use Rattle.std.proofs.lemmas.Bool.{ltb-false, lt-ltb}
+use Rattle.std.proofs.Common.{◌≡◌, refl, sym, ◌∙◌, ap, ℕ, zero, suc, ◌-◌, ◌<◌, Bool, true, false, ◌&&◌, ◌||◌, nat_lt, if◌then◌else◌, List, length, codes, subst, arith}
+use Rattle.std.proofs.lemmas.Bool.{lt-ltb}
 use Rattle.std.proofs.Common.{ltb-true}
 use Rattle.ratio.specs.declared.reduced.Ratio.{Ratio}
 use Rattle.c_text.specs.declared.place.Scope.{Scope}
-use Rattle.c_text.specs.Stream.{Stream, Read, ◌>>=◌, repeat, is_ahead}
-use Rattle.c_text.specs.Statements.{is_statement, is_call, add_line, line_at, line_by, body_at, body_by, loop_by, call_line_at, line_ahead, no_body, no_bodies}
+use Rattle.c_text.specs.Stream.{Stream, repeat, is_ahead}
+use Rattle.c_text.specs.Statements.{is_statement, is_call, add_line, line_at, line_by, body_at, loop_by, call_line_at, line_ahead, no_body}
 use Rattle.c_text.proofs.Repeats.{some_ahead}
 
 line_loop : (k : ℕ) (scope : Scope) (tables : List (List Ratio)) (s : Stream) → is_ahead (codes "for") s ≡ true → line_at (suc k) scope tables s ≡ loop_by (body_at k) (line_ahead s) scope tables s

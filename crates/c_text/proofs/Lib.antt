@@ -6,3 +6,13 @@ pub mod LowestLaws
 pub mod Repeats
 pub mod NumberLaws
 pub mod UnitLaws
+pub mod Eats
+pub mod NumberTexts
+pub mod PlaceWords
+pub mod TableWords
+pub mod StatementWords
+pub mod BodyWords
+pub mod UnitWords
+pub mod Lexing
+pub mod Apart
+pub mod LayoutApart

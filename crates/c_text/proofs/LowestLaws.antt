@@ -1,10 +1,9 @@
 -- Fractions in lowest terms, and what `Ratio::new` makes of them
-use Rattle.std.proofs.Common.{◌≡◌, ◌≢◌, refl, sym, ◌∙◌, ap, ℕ, zero, suc, ◌<◌, ◌/◌, ◌^◌, ℤ, pos, ◌*ℤ◌, Bool, true, false, ◌&&◌, not, ◌==◌, ◌||◌, nat_lt, nat_le, Option, Some, None, unsigned_abs, IsSome, ◌↔◌, arith, subst, ltb-true}
+use Rattle.std.proofs.Common.{◌≡◌, ◌≢◌, refl, sym, ◌∙◌, ap, ℕ, zero, suc, ◌<◌, ◌/◌, ◌^◌, pos, Bool, true, false, ◌&&◌, not, ◌==◌, ◌||◌, nat_lt, nat_le, Option, Some, None, unsigned_abs, arith, subst, ltb-true}
 use Rattle.std.proofs.lemmas.Bool.{eq-eqb, lt-ltb, lt-leb, leb-false, true≢false}
 use Rattle.c_text.proofs.NumberLaws.{eqb_ne}
 use native.Mathlib.Nat as N
 use Rattle.algebra.specs.Gcd.{gcd}
-use Rattle.algebra.specs.Fraction.{Fraction}
 use Rattle.algebra.specs.Sign.{signed}
 use Rattle.algebra.specs.LowestTerms.{top, bottom}
 use Rattle.algebra.specs.Steps.{quotient}

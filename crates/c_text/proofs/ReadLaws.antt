@@ -1,10 +1,10 @@
 -- Reading step by step
-use Rattle.std.proofs.Common.{◌≡◌, refl, sym, ◌∙◌, ap, ℕ, suc, ◌+◌, ◌<◌, true, false, List, [], ◌∷◌, length, drop, drop-cons, get_or, map, add-one, Result, Ok, Err, IsErr, IsErrAnd, subst}
+use Rattle.std.proofs.Common.{◌≡◌, sym, ◌∙◌, ap, Result, Ok, Err, IsErr, IsErrAnd, subst}
 use Rattle.std.proofs.lemmas.Bool.{true≢false}
 use Rattle.c_text.specs.declared.refusal.KernelRefusal.{KernelRefusal}
 use Rattle.c_text.specs.declared.refusal.ReadFault.{ReadFault}
 use Rattle.c_text.specs.declared.refusal.ReadFault.TheVariants as faults
-use Rattle.c_text.specs.Stream.{Stream, Read, Fails, Gives, ◌>>=◌, expect, expects}
+use Rattle.c_text.specs.Stream.{Stream, Read, Fails, Gives, ◌>>=◌}
 
 -- a fault passes through what would have followed
 pub fails_through : {A B : Type 0} (e : ReadFault) (r : Result A KernelRefusal) (f : A → Result B KernelRefusal) → Fails e r → Fails e (r >>= f)

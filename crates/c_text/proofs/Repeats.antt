@@ -1,10 +1,8 @@
 -- Reading one after the other
-use Rattle.std.proofs.Common.{◌≡◌, refl, sym, ◌∙◌, ap, ℕ, zero, suc, ◌<◌, ◌≤◌, Bool, true, false, ◌||◌, ◌&&◌, List, [], ◌∷◌, length, Result, Ok, Err, if◌then◌else◌, arith}
+use Rattle.std.proofs.Common.{◌≡◌, refl, ◌∙◌, ap, ℕ, zero, suc, ◌<◌, ◌≤◌, Bool, true, false, List, [], ◌∷◌, length, Ok, if◌then◌else◌, arith}
 use Rattle.std.specs.Str.{bytes_eq}
 use Rattle.slices.specs.Tokens.{Token}
-use Rattle.c_text.specs.declared.refusal.KernelRefusal.{KernelRefusal}
 use Rattle.c_text.specs.declared.refusal.ReadFault.{ReadFault}
-use Rattle.c_text.specs.declared.refusal.ReadFault.TheVariants as faults
 use Rattle.c_text.specs.Stream.{Stream, Read, Fails, ◌>>=◌, repeat, text_ahead, text_ahead_by, is_ahead}
 use Rattle.c_text.specs.Units.{is_more, is_more_by}
 use Rattle.c_text.proofs.ReadLaws.{fails_through, fails_as}

@@ -1,9 +1,6 @@
 -- Reading fractions and tables
-use Rattle.std.specs.Prelude.{◌≡◌, refl, ℕ, ◌+◌, ◌*◌, ◌^◌, ◌<◌, Bool, true, false, ◌&&◌, ◌||◌, not, ◌==◌, nat_lt, if◌then◌else◌, List, [], ◌∷◌, ◌++◌, length, Option, Some, None, Result, Ok, Err, bytes_eq, codes, unsigned_abs}
-use Rattle.algebra.specs.Gcd.{gcd}
-use Rattle.algebra.specs.Sign.{signed}
+use Rattle.std.specs.Prelude.{ℕ, ◌+◌, ◌*◌, ◌^◌, Bool, true, false, ◌||◌, not, ◌==◌, nat_lt, if◌then◌else◌, List, [], ◌∷◌, ◌++◌, length, Option, Some, None, Ok, Err, bytes_eq, codes}
 use Rattle.ratio.specs.declared.reduced.Ratio.{Ratio}
-use Rattle.c_text.specs.declared.refusal.KernelRefusal.{KernelRefusal}
 use Rattle.c_text.specs.declared.refusal.KernelKind.TheVariants as kinds
 use Rattle.c_text.specs.Stream.{Stream, Read, ◌>>=◌, refusal, shift, expect, expects, repeat, is_ahead}
 use Rattle.c_text.specs.Numbers.{half_value, table_value}

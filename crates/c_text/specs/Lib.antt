@@ -10,3 +10,5 @@ pub mod Lowest
 pub mod Fractions
 pub mod Statements
 pub mod Units
+pub mod Lawful
+pub mod Spelling

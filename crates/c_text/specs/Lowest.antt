@@ -1,5 +1,5 @@
 -- The fraction of two parts in lowest terms
-use Rattle.std.specs.Prelude.{◌≡◌, refl, ℕ, zero, suc, ◌<◌, ◌^◌, ℤ, pos, neg_ℤ, Bool, true, false, ◌&&◌, ◌||◌, not, ◌==◌, nat_lt, nat_le, if◌then◌else◌, Option, Some, None, unsigned_abs}
+use Rattle.std.specs.Prelude.{◌≡◌, refl, ℕ, ◌<◌, ◌^◌, Bool, true, false, ◌&&◌, ◌||◌, not, ◌==◌, nat_lt, nat_le, Option, Some, None}
 use Rattle.std.proofs.Common.{ap, sym, ◌∙◌, subst, ltb-true}
 use Rattle.std.proofs.lemmas.Bool.{eqb-true}
 use Rattle.algebra.specs.Gcd.{gcd}

@@ -1,11 +1,10 @@
 -- Reading numbers, slots and places
-use Rattle.std.specs.Prelude.{◌≡◌, ℕ, ◌+◌, Bool, true, false, ◌&&◌, ◌==◌, nat_le, nat_lt, if◌then◌else◌, List, [], ◌∷◌, length, slice_set, Option, Some, None, Result, Ok, Err, bytes_eq, codes}
+use Rattle.std.specs.Prelude.{ℕ, ◌+◌, Bool, true, false, ◌&&◌, ◌==◌, nat_le, nat_lt, if◌then◌else◌, List, [], ◌∷◌, length, slice_set, Option, Some, None, Ok, Err, bytes_eq, codes}
 use Rattle.c_unit.specs.declared.unit.Array.{Array}
 use Rattle.c_unit.specs.declared.unit.Array.TheVariants.{X, W, T, A}
 use Rattle.c_unit.specs.declared.unit.Slot.{Slot}
 use Rattle.c_unit.specs.declared.unit.Place.{Place}
 use Rattle.c_unit.specs.Rules.{greatest}
-use Rattle.c_text.specs.declared.refusal.KernelRefusal.{KernelRefusal}
 use Rattle.c_text.specs.declared.refusal.KernelKind.TheVariants as kinds
 use Rattle.c_text.specs.declared.place.Scope.{Scope}
 use Rattle.c_text.specs.declared.place.Steps.{Steps}

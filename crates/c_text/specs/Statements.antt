@@ -1,12 +1,11 @@
 -- Reading statements
-use Rattle.std.specs.Prelude.{◌≡◌, ℕ, zero, suc, ◌+◌, ◌*◌, min, Bool, true, false, ◌&&◌, ◌||◌, ◌==◌, if◌then◌else◌, List, [], ◌∷◌, ◌++◌, length, slice_get, slice_set, Option, Some, None, Result, Ok, Err, codes}
+use Rattle.std.specs.Prelude.{ℕ, zero, suc, ◌+◌, ◌*◌, min, Bool, true, false, ◌&&◌, ◌||◌, ◌==◌, if◌then◌else◌, List, [], ◌∷◌, ◌++◌, length, slice_get, slice_set, Option, Some, None, Ok, Err, codes}
 use Rattle.ratio.specs.declared.reduced.Ratio.{Ratio}
 use Rattle.slices.specs.Tokens.{Token}
 use Rattle.c_unit.specs.declared.unit.Array.TheVariants.{T}
 use Rattle.c_unit.specs.declared.unit.Place.{Place}
 use Rattle.c_unit.specs.declared.unit.CStmt.{CStmt, Set, Copy, Abs, Inv, Add, Sub, Mul, Load}
 use Rattle.c_unit.specs.declared.unit.CStmt.TheViews as View
-use Rattle.c_text.specs.declared.refusal.KernelRefusal.{KernelRefusal}
 use Rattle.c_text.specs.declared.refusal.KernelKind.TheVariants as kinds
 use Rattle.c_text.specs.declared.place.Scope.{Scope}
 use Rattle.c_text.specs.declared.statement.Body.{Body}

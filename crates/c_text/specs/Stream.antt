@@ -1,5 +1,5 @@
 -- The tokens that are still to be read, and how reading goes on
-use Rattle.std.specs.Prelude.{◌≡◌, ℕ, zero, suc, ◌+◌, ◌-◌, Bool, true, false, ◌==◌, if◌then◌else◌, List, [], ◌∷◌, length, take, count_by, Option, Some, None, Result, Ok, Err, bytes_eq}
+use Rattle.std.specs.Prelude.{◌≡◌, ℕ, zero, suc, ◌+◌, ◌-◌, Bool, ◌==◌, if◌then◌else◌, List, [], ◌∷◌, length, take, count_by, Option, Some, None, Result, Ok, Err, bytes_eq}
 use Rattle.slices.specs.White.{Rest}
 use Rattle.slices.specs.Tokens.{Token, begins, rest_of, token_of, tokens_from}
 use Rattle.slices.specs.declared.toks.Tok.{Tok}

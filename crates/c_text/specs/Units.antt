@@ -1,8 +1,7 @@
 -- Reading functions and units
-use Rattle.std.specs.Prelude.{◌≡◌, ℕ, ◌+◌, ◌-◌, Bool, true, false, ◌||◌, not, ◌==◌, nat_lt, if◌then◌else◌, List, [], ◌∷◌, ◌++◌, length, take, drop, Option, Some, None, Result, Ok, Err, bytes_eq, codes}
+use Rattle.std.specs.Prelude.{◌≡◌, ℕ, ◌-◌, Bool, true, false, ◌||◌, ◌==◌, nat_lt, if◌then◌else◌, List, [], ◌∷◌, ◌++◌, length, take, drop, Option, Some, None, Result, Ok, Err, bytes_eq, codes}
 use Rattle.slices.specs.Tokens.{Token}
 use Rattle.c_unit.specs.declared.unit.CFun.{CFun}
-use Rattle.c_unit.specs.declared.unit.CUnit.{CUnit}
 use Rattle.c_text.specs.declared.refusal.KernelRefusal.{KernelRefusal}
 use Rattle.c_text.specs.declared.refusal.KernelKind.{KernelKind}
 use Rattle.c_text.specs.declared.refusal.KernelKind.TheVariants as kinds

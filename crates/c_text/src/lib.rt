@@ -5,6 +5,7 @@
 #![tactic(auto)]
 
 mod fraction;
+pub mod laws;
 mod number;
 mod parser;
 mod place;

@@ -1,4 +1,4 @@
-use Rattle.std.proofs.Common.{◌≡◌, ◌∙◌, sym}
+use Rattle.std.proofs.Common.{◌∙◌, sym}
 use Rattle.c_text.proofs.LowestLaws.{out_none, in_range}
 use Rattle.c_text.proofs.fraction.fraction_of_parts.Goals as goal
 

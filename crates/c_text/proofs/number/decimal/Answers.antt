@@ -1,4 +1,4 @@
-use Rattle.std.proofs.Common.{◌≡◌, ◌∙◌, sym, length}
+use Rattle.std.proofs.Common.{◌∙◌, sym, length}
 use Rattle.std.proofs.lemmas.Bool.{eq-eqb}
 use Rattle.c_text.proofs.NumberLaws.{decimal_empty, decimal_leading, decimal_told, decimal_either, eqb_ne}
 use Rattle.c_text.proofs.number.decimal.Goals as goal

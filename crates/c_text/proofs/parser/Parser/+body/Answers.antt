@@ -1,9 +1,9 @@
-use Rattle.std.proofs.Common.{◌≡◌, ◌≤◌, ◌<◌, ◌∙◌, refl, sym, ap, ap₂, nat_lt, Ok, List, [], ◌∷◌, ◌++◌, ◌+◌, length, arith}
+use Rattle.std.proofs.Common.{◌∙◌, sym, ap, ap₂, nat_lt, Ok, length, arith}
 use Rattle.c_text.specs.declared.statement.Body.{Body}
 use Rattle.c_text.specs.Stream.{◌>>=◌, repeat}
-use Rattle.c_text.specs.Statements.{is_statement, add_line, with_line, line_at, body_at}
-use Rattle.c_text.specs.Parser.{stream, left}
-use Rattle.c_text.proofs.ReadLaws.{same_three, gives_as, gives_err, fails_through, fails_as}
+use Rattle.c_text.specs.Statements.{is_statement, add_line, with_line, line_at}
+use Rattle.c_text.specs.Parser.{stream}
+use Rattle.c_text.proofs.ReadLaws.{same_three, gives_as, gives_err, fails_through}
 use Rattle.c_text.proofs.Repeats.{one_more, none_more, all_read}
 use Rattle.c_text.proofs.Bodies.{body_from, line_loop_at, line_call_at, some_statement}
 use Rattle.c_text.proofs.parser.Parser.+body.Goals as goal

@@ -1,9 +1,8 @@
-use Rattle.std.proofs.Common.{◌≡◌, ◌≤◌, ◌<◌, ◌∙◌, sym, ap, Ok, List, [], ◌∷◌, ◌++◌, arith}
-use Rattle.c_unit.specs.declared.unit.CFun.{CFun}
+use Rattle.std.proofs.Common.{◌∙◌, sym, ap, Ok, arith}
 use Rattle.c_text.specs.declared.read.ReadUnit.{ReadUnit}
 use Rattle.c_text.specs.Stream.{◌>>=◌, repeat}
 use Rattle.c_text.specs.Units.{function_at, add_function, with_function, is_more}
-use Rattle.c_text.specs.Parser.{stream, left}
+use Rattle.c_text.specs.Parser.{stream}
 use Rattle.c_text.proofs.ReadLaws.{same_three, gives_err, fails_through, fails_as}
 use Rattle.c_text.proofs.Repeats.{one_more, none_more, all_read, some_more}
 use Rattle.c_text.proofs.parser.Parser.functions.Goals as goal

@@ -1,4 +1,4 @@
-use Rattle.std.proofs.Common.{◌≡◌, ◌∙◌, ap}
+use Rattle.std.proofs.Common.{◌∙◌, ap}
 use Rattle.c_text.specs.Stream.{◌>>=◌, expect, expects}
 use Rattle.c_text.specs.Units.{signature_at, parameters}
 use Rattle.c_text.proofs.ReadLaws.{gives_as}

@@ -1,7 +1,7 @@
-use Rattle.std.proofs.Common.{◌≡◌, ◌≤◌, ◌<◌, ◌∙◌, sym, ap, codes, Ok, arith}
+use Rattle.std.proofs.Common.{◌∙◌, sym, ap, codes, Ok, arith}
 use Rattle.c_text.specs.Stream.{◌>>=◌, is_ahead}
-use Rattle.c_text.specs.Places.{step_at, steps_at, add_step, with_step}
-use Rattle.c_text.specs.Parser.{stream, left}
+use Rattle.c_text.specs.Places.{step_at, add_step, with_step}
+use Rattle.c_text.specs.Parser.{stream}
 use Rattle.c_text.proofs.ReadLaws.{gives_err, fails_through}
 use Rattle.c_text.proofs.Repeats.{one_more, none_more, all_read, some_ahead}
 use Rattle.c_text.proofs.parser.Parser.steps.Goals as goal

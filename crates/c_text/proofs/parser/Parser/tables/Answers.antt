@@ -1,7 +1,7 @@
-use Rattle.std.proofs.Common.{◌≡◌, ◌≤◌, ◌<◌, ◌∙◌, sym, ap, codes, Ok, List, [], ◌∷◌, ◌++◌, length, arith}
+use Rattle.std.proofs.Common.{◌∙◌, sym, ap, codes, Ok, [], ◌∷◌, ◌++◌, length, arith}
 use Rattle.c_text.specs.Stream.{◌>>=◌, is_ahead, repeat}
 use Rattle.c_text.specs.Fractions.{table_at, add_table}
-use Rattle.c_text.specs.Parser.{stream, left}
+use Rattle.c_text.specs.Parser.{stream}
 use Rattle.c_text.proofs.ReadLaws.{gives_err, fails_through, fails_as}
 use Rattle.c_text.proofs.Repeats.{one_more, none_more, all_read, some_ahead}
 use Rattle.c_text.proofs.parser.Parser.tables.Goals as goal
