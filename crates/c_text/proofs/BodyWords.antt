@@ -57,7 +57,7 @@ header_read depth n s r four some small e =
 
 -- ---- how many statements
 
-cap_sum : (d l c more : ℕ) → l ≡ capped c → capped (capped (d + l) + more) ≡ capped (d + (c + more))
+pub cap_sum : (d l c more : ℕ) → l ≡ capped c → capped (capped (d + l) + more) ≡ capped (d + (c + more))
 cap_sum d l c more h = omega (arith, h)
 
 at_least : (x n : ℕ) → 0 < n → x ≤ x * n
@@ -199,7 +199,7 @@ load_line {z} {turns} {depth} {to} {k} {at} target t h item =
 
 -- ---- loops
 
-one_deeper : (depth : ℕ) → depth < 4 → deeper depth ≡ depth + 1
+pub one_deeper : (depth : ℕ) → depth < 4 → deeper depth ≡ depth + 1
 one_deeper depth h = rw (lt-ltb depth 4 h) refl
 
 pub no_line : (room : ℕ) (w : List ℕ) (ws : List (List ℕ)) (s r : Stream) → Eats (w ∷ ws) s r

@@ -117,3 +117,16 @@ eaten_length (w ∷ ws) s r h =
     let e = ap length (shift_ok s (p.0, p.1) p.2) in
     let k = eaten_length ws p.1 r p.4 in
     omega (arith, e, k)
+
+shift_end_by : (ts : List Token) (end : KernelRefusal) (x : Token × Stream) → shift_by ts end ≡ Ok x → x.1.end ≡ end
+shift_end_by [] end x h = cc
+shift_end_by (t ∷ ts) end x h = let e : ◌≡◌ {A = Token × Stream} (t, record { tokens = ts; end = end }) x = cc in ap (λ y. y.1.end) (sym e)
+
+shift_end : (s : Stream) (x : Token × Stream) → shift s ≡ Ok x → x.1.end ≡ s.end
+unfolding shift
+shift_end s x h = shift_end_by s.tokens s.end x h
+
+-- what is wrong behind the tokens stays
+pub end_kept : (ws : List (List ℕ)) (s r : Stream) → Eats ws s r → r.end ≡ s.end
+end_kept [] s r e = ap (λ m. m.end) (sym (none_eaten s r e))
+end_kept (w ∷ ws) s r e = let p = first_eaten w ws s r e in end_kept ws p.1 r p.4 ∙ shift_end s (p.0, p.1) p.2

@@ -16,3 +16,10 @@ pub mod UnitWords
 pub mod Lexing
 pub mod Apart
 pub mod LayoutApart
+pub mod PlaceTold
+pub mod TableTold
+pub mod StatementTold
+pub mod BodyTold
+pub mod TokenTold
+pub mod UnitTold
+pub mod Answered

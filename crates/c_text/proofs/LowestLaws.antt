@@ -30,7 +30,7 @@ unfolding lowest_by
 some_by g n d true e h = (lowest_ratio g n d e, refl, refl, refl)
 some_by g n d false e h = cc
 
-some_from : (g : Bool) (n d : ℕ) → is_lowest g n d ≡ true → (r : Ratio) × (fraction_from g n d ≡ Some r) × (r.n ≡ signed g n) × (r.d ≡ d)
+pub some_from : (g : Bool) (n d : ℕ) → is_lowest g n d ≡ true → (r : Ratio) × (fraction_from g n d ≡ Some r) × (r.n ≡ signed g n) × (r.d ≡ d)
 unfolding fraction_from
 some_from g n d e = some_by g n d (is_lowest g n d) refl e
 

@@ -79,11 +79,11 @@ steps_on depth m n a s r k l f d four some small e =
     (ap (λ x. x >>= λ x. Ok (with_step a x.0, x.1)) p.1) in
     record { b = with_step a (n, k, p.0); k = o.0; room = o.1; least = omega arith; same = refl; onward = o.2 }
 
-no_step : (k : ℕ) → words_of (step_pieces k 0) ≡ []
+pub no_step : (k : ℕ) → words_of (step_pieces k 0) ≡ []
 unfolding step_pieces
 no_step k = refl
 
-one_step : (k n : ℕ) → 0 < n → words_of (step_pieces k n) ≡ codes "+" ∷ decimal n ∷ codes "*" ∷ counter k ∷ []
+pub one_step : (k n : ℕ) → 0 < n → words_of (step_pieces k n) ≡ codes "+" ∷ decimal n ∷ codes "*" ∷ counter k ∷ []
 unfolding step_pieces
 one_step k n h = rw (eqb_ne n 0 (λ z. omega (arith, z, h))) refl
 
@@ -147,7 +147,7 @@ scope_of z turns depth = record { x = z.x; w = z.w; t = z.t; a = z.a; turns = tu
 pub bracket : (s r : Stream) → Eats (codes "]" ∷ []) s r → plus s ≡ false
 bracket s r e = is_ahead_of (codes "+") (codes "]") [] s r e
 
-same_size : (z : Sizes) (turns : List ℕ) (depth : ℕ) (array : Array) → size_of z array ≡ size_in (scope_of z turns depth) array
+pub same_size : (z : Sizes) (turns : List ℕ) (depth : ℕ) (array : Array) → size_of z array ≡ size_in (scope_of z turns depth) array
 same_size z turns depth X = refl
 same_size z turns depth W = refl
 same_size z turns depth T = refl

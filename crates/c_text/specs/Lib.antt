@@ -12,3 +12,4 @@ pub mod Statements
 pub mod Units
 pub mod Lawful
 pub mod Spelling
+pub mod Lines

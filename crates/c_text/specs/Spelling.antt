@@ -1,7 +1,10 @@
 -- Which texts stand for a unit
-use Rattle.std.specs.Prelude.{◌≡◌, ℕ, List, Option, None, map}
+use Rattle.std.specs.Prelude.{◌≡◌, ℕ, List, Option, None, Result, Ok, Err, map}
 use Rattle.slices.specs.Tokens.{Token, begins, rest_of, tokens_from}
 use Rattle.c_unit.specs.declared.unit.CUnit.{CUnit}
+use Rattle.c_text.specs.declared.read.ReadUnit.{ReadUnit}
+use Rattle.c_text.specs.declared.refusal.KernelRefusal.{KernelRefusal}
+use Rattle.c_text.specs.declared.refusal.KernelKind.TheVariants as kinds
 use Rattle.c_text.specs.Pieces.{words_of}
 use Rattle.c_text.specs.Layout.{unit_pieces}
 
@@ -16,3 +19,8 @@ texts ts = map (λ t. t.text) ts
 pub record Spells (text : List ℕ) (u : CUnit) : Type 0 where
   pub words : texts (tokens_of text).0 ≡ words_of (unit_pieces u)
   pub nothing_else : (tokens_of text).1 ≡ None
+
+-- The unit is read, unless memory ran out.
+abbrev pub IsTaken : Result ReadUnit KernelRefusal → CUnit → Type 0
+IsTaken (Ok r) u = r.unit ≡ u
+IsTaken (Err e) u = e.kind ≡ kinds.Memory

@@ -1,8 +1,12 @@
 // Functions and units.
 
-ghost use Rattle.std.specs.Prelude.{◌≡◌, ◌<◌, ◌≤◌, OnOk, IfOk, option_map};
+ghost use Rattle.std.specs.Prelude.{◌≡◌, ◌<◌, ◌≤◌, ◌^◌, length, OnOk, IfOk, option_map};
+ghost use Rattle.c_unit.specs.declared.unit.CUnit.{CUnit};
 ghost use Rattle.c_text.specs.Stream.{Gives};
 ghost use Rattle.c_text.specs.Parser.{stream, left};
+ghost use Rattle.c_text.specs.Lawful.{MeetsRules};
+ghost use Rattle.c_text.specs.Lines.{IsLined};
+ghost use Rattle.c_text.specs.Spelling.{Spells, IsTaken};
 ghost use Rattle.c_text.specs.Units.{without_suffix as front_of, is_among as is_name_of_one, name_at, size_at, named_size_at, repeated_at, signature_at, clear_at, slots_at, end_at, sizes_at, function_at, functions_at, is_more as is_more_ahead, fault_at_end as fault_of_end, reading, Answers, IsRead};
 
 use crate::fraction::LARGEST;
@@ -288,8 +292,14 @@ fn read_all(alloc: Global, text: &[u8]) -> Result<ReadUnit, ReadFault>
 }
 
 /// The unit of a text, or the first place where it is refused.
+///
+/// A text is taken exactly where it spells a unit that meets the rules: its words and signs are those of the unit, in their order.
 pub fn read_unit(alloc: Global, text: &[u8]) -> Result<ReadUnit, KernelRefusal>
     ensures exact { Answers result (reading text.now) }
+    ensures spelled { IfOk result (λ r. Spells text.now r.unit) }
+    ensures lawful { IfOk result (λ r. MeetsRules r.unit) }
+    ensures lined { IfOk result (λ r. IsLined text.now r) }
+    ensures taken { (u : CUnit) → MeetsRules u → Spells text.now u → length text.now ≤ 2 ^ 28 → IsTaken result u }
 {
     match read_all(alloc, text) {
         Ok(unit) => Ok(unit),

@@ -50,7 +50,7 @@ fn kernel_with(alloc: Global, number: usize, line: &[u8]) -> Result<Vec<u8>, All
     Ok(text)
 }
 
-const CASES: [(usize, &[u8], KernelKind, u32); 26] = [
+const CASES: [(usize, &[u8], KernelKind, u32); 34] = [
     (
         11,
         b"  if (fr_mul(&A[4], &T[0], &T[1])) return 1;",
@@ -181,6 +181,54 @@ const CASES: [(usize, &[u8], KernelKind, u32); 26] = [
         7,
     ),
     (13, b"", KernelKind::Syntax, 13),
+    (
+        9,
+        b"  for (int i0 = 0; i1 < 2; i0++) { }",
+        KernelKind::Syntax,
+        9,
+    ),
+    (
+        9,
+        b"  for (int i0 = 0; i0 < 2; i0++) { for (int i1 = 0; i1 < 2; i1++) { fr_copy(&T[0+1*i1+1*i0], &X[0]); } }",
+        KernelKind::Syntax,
+        9,
+    ),
+    (
+        9,
+        b"  for (int i0 = 0; i0 < 1; i0++) { for (int i1 = 0; i1 < 1; i1++) { for (int i2 = 0; i2 < 1; i2++) { for (int i3 = 0; i3 < 1; i3++) { for (int i4 = 0; i4 < 1; i4++) { } } } } }",
+        KernelKind::Syntax,
+        9,
+    ),
+    (
+        7,
+        b"  fr_clear(A, 4); static const fr_lit K0[0] = { };",
+        KernelKind::Bound,
+        7,
+    ),
+    (
+        7,
+        b"  fr_clear(A, 4); static const fr_lit K0[1] = { { 0, 0u, 2u, 0u, 4u } };",
+        KernelKind::Bound,
+        7,
+    ),
+    (
+        7,
+        b"  fr_clear(A, 4); static const fr_lit K0[1] = { { 0, 0u, 1u, 0u, 3u } }; fr_load(&T[0], &K0[1]);",
+        KernelKind::Slot,
+        7,
+    ),
+    (
+        7,
+        b"  fr_clear(A, 4); static const fr_lit K0[1] = { { 0, 0u, 1u, 0u, 3u } }; fr_load(&A[0], &K0[0]);",
+        KernelKind::Syntax,
+        7,
+    ),
+    (
+        13,
+        b"} enum { ffc_a_X = 2, ffc_a_W = 0, ffc_a_T = 2, ffc_a_A = 4 };",
+        KernelKind::Bound,
+        13,
+    ),
     (1, b"#include <fr.h>", KernelKind::Syntax, 1),
 ];
 
