@@ -13,3 +13,4 @@ pub mod Units
 pub mod Lawful
 pub mod Spelling
 pub mod Lines
+pub mod Names

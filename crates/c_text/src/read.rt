@@ -1,13 +1,14 @@
 // Functions and units.
 
-ghost use Rattle.std.specs.Prelude.{◌≡◌, ◌<◌, ◌≤◌, ◌^◌, length, OnOk, IfOk, option_map};
+ghost use Rattle.std.specs.Prelude.{◌≡◌, ◌<◌, ◌≤◌, ◌^◌, ◌||◌, ℕ, List, not, bytes_eq, length, OnOk, IfOk, option_map};
 ghost use Rattle.c_unit.specs.declared.unit.CUnit.{CUnit};
 ghost use Rattle.c_text.specs.Stream.{Gives};
 ghost use Rattle.c_text.specs.Parser.{stream, left};
 ghost use Rattle.c_text.specs.Lawful.{MeetsRules};
+ghost use Rattle.c_text.specs.Names.{has_name, AreNames, AreNamesWith};
 ghost use Rattle.c_text.specs.Lines.{IsLined};
 ghost use Rattle.c_text.specs.Spelling.{Spells, IsTaken};
-ghost use Rattle.c_text.specs.Units.{without_suffix as front_of, is_among as is_name_of_one, name_at, size_at, named_size_at, repeated_at, signature_at, clear_at, slots_at, end_at, sizes_at, function_at, functions_at, is_more as is_more_ahead, fault_at_end as fault_of_end, reading, Answers, IsRead};
+ghost use Rattle.c_text.specs.Units.{without_suffix as front_of, name_at, size_at, named_size_at, repeated_at, signature_at, clear_at, slots_at, end_at, sizes_at, function_at, functions_at, is_more as is_more_ahead, fault_at_end as fault_of_end, reading, Answers, IsRead};
 
 use crate::fraction::LARGEST;
 use crate::parser::{Parser, syntax};
@@ -16,7 +17,8 @@ use crate::refusal::{KernelKind, KernelRefusal, ReadFault};
 use crate::statement::Body;
 use c_unit::{CFun, CUnit};
 use sqlite_items::Items;
-use std::alloc::Global;
+use std::alloc::{AllocError, Global};
+use std::collections::HashSet;
 
 /// The greatest number of bytes.
 const LONGEST: usize = 0x1000_0000;
@@ -51,23 +53,22 @@ fn without_suffix<'t>(text: &'t [u8], suffix: &[u8]) -> Option<&'t [u8]>
     if back == suffix { Some(front) } else { None }
 }
 
-fn is_among(funs: &[CFun], name: &[u8]) -> bool
-    ensures { result ≡ is_name_of_one funs.now name.now }
+// Takes a name up among the others; the answer is whether it is new.
+fn take_up<'t>(names: &mut HashSet<&'t [u8]>, name: &'t [u8]) -> Result<bool, AllocError>
+    ensures fresh { IfOk result (λ b. not b ≡ has_name names.old name.now) }
+    ensures now { OnOk result ((n : List ℕ) → has_name names.new n ≡ (bytes_eq name.now n || has_name names.old n)) }
 {
-    for fun in funs {
-        if fun.name.as_slice() == name {
-            return true;
-        }
-    }
-    false
+    Ok(names.insert(name)?)
 }
 
 impl<'a> Parser<'a> {
-    // The name of a function, from the first word between the brackets.
+    // The name of a function, from the first word between the brackets; `names` has those of the functions before it.
     #[tactic(auto, unfolding(crate::specs::Units::name_at))]
-    fn name(&mut self, funs: &[CFun]) -> Result<&'a [u8], ReadFault>
+    fn name(&mut self, names: &mut HashSet<&'a [u8]>, funs: &[CFun]) -> Result<&'a [u8], ReadFault>
+        requires { AreNames names.old funs.now }
         ensures read { Gives (λ n. n.now) result (stream self.new) (name_at funs.now (stream self.old)) }
         ensures shorter { OnOk result (left self.new < left self.old) }
+        ensures names { IfOk result (λ n. AreNamesWith names.new funs.now n.now) }
     {
         let token = self.shift()?;
         let Some(name) = without_suffix(token.text, b"_X") else {
@@ -76,7 +77,7 @@ impl<'a> Parser<'a> {
         if name.is_empty() {
             return Err(syntax(token.line));
         }
-        if is_among(funs, name) {
+        if !take_up(names, name)? {
             return Err(refused(KernelKind::Bound, token.line));
         }
         Ok(name)
@@ -176,13 +177,19 @@ impl<'a> Parser<'a> {
 
     // The sizes of the arrays, and the name.
     #[tactic(auto, unfolding(crate::specs::Units::sizes_at))]
-    fn sizes(&mut self, funs: &[CFun]) -> Result<(&'a [u8], Scope), ReadFault>
+    fn sizes(
+        &mut self,
+        names: &mut HashSet<&'a [u8]>,
+        funs: &[CFun],
+    ) -> Result<(&'a [u8], Scope), ReadFault>
+        requires { AreNames names.old funs.now }
         ensures read { Gives (λ x. (x.0.now, x.1)) result (stream self.new) (sizes_at funs.now (stream self.old)) }
         ensures shorter { OnOk result (left self.new < left self.old) }
         ensures outside { IfOk result (λ x. x.1.depth ≡ 0) }
+        ensures names { IfOk result (λ x. AreNamesWith names.new funs.now x.0.now) }
     {
         self.expect(b"{")?;
-        let name = self.name(funs)?;
+        let name = self.name(names, funs)?;
         let x = self.size(0)?;
         let w = self.named_size(name, b"_W", 0)?;
         let t = self.named_size(name, b"_T", 1)?;
@@ -202,12 +209,19 @@ impl<'a> Parser<'a> {
     }
 
     #[tactic(auto, unfolding(crate::specs::Units::function_at))]
-    fn function(&mut self, alloc: Global, funs: &[CFun]) -> Result<ReadFun, ReadFault>
+    fn function(
+        &mut self,
+        alloc: Global,
+        names: &mut HashSet<&'a [u8]>,
+        funs: &[CFun],
+    ) -> Result<ReadFun, ReadFault>
+        requires { AreNames names.old funs.now }
         ensures read { Gives (λ x. x) result (stream self.new) (function_at funs.now (stream self.old)) }
         ensures shorter { OnOk result (left self.new < left self.old) }
+        ensures names { IfOk result (λ f. AreNamesWith names.new funs.now f.fun.name) }
     {
         let line = self.expect(b"enum")?;
-        let (name, scope) = self.sizes(funs)?;
+        let (name, scope) = self.sizes(names, funs)?;
         self.signature(name)?;
         self.slots(scope.t, scope.a)?;
         let tables = self.tables(alloc)?;
@@ -235,6 +249,7 @@ impl<'a> Parser<'a> {
     fn functions(&mut self, alloc: Global) -> Result<ReadUnit, ReadFault>
         ensures { Gives (λ x. x) result (stream self.new) (functions_at (stream self.old)) }
     {
+        let mut names = HashSet::new(alloc);
         let mut funs = Items::new(alloc);
         let mut enums = Items::new(alloc);
         let mut all_lines = Items::new(alloc);
@@ -246,7 +261,7 @@ impl<'a> Parser<'a> {
                     lines: all_lines,
                 });
             }
-            let ReadFun { fun, line, lines } = self.function(alloc, funs.as_slice())?;
+            let ReadFun { fun, line, lines } = self.function(alloc, &mut names, funs.as_slice())?;
             funs.push(fun)?;
             enums.push(line)?;
             all_lines.push(lines)?;
