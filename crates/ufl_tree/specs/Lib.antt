@@ -1,0 +1,11 @@
+pub mod Typed
+pub mod Term
+pub mod FormTerm
+pub mod Reading
+pub mod Indices
+pub mod Places
+pub mod Environment
+pub mod Operators
+pub mod Value
+pub mod Meaning
+pub mod Density
