@@ -1,5 +1,6 @@
 -- What the value of a tree depends on: the cell, the functions, the offsets of variables, and the parameters in use
-use Rattle.std.specs.Prelude.{◌≡◌, ℕ, suc, ◌+◌, ◌≤◌, ◌==◌, ◌&&◌, Bool, true, false, List, [], ◌∷◌, if◌then◌else◌}
+use Rattle.std.specs.Prelude.{◌≡◌, ℕ, suc, ◌+◌, ◌≤◌, ◌==◌, ◌&&◌, Bool, true, false, List, if◌then◌else◌, nat_eq}
+use Rattle.std.specs.Cmp.Lexicographic.{pointwise}
 use Rattle.calculus.specs.Simplex.{Simplex}
 use Rattle.calculus.specs.Polynomial.{Polynomial, nil, plus, times, coordinate, derivative}
 use Rattle.ufl_tree.specs.declared.function.Role.{Role}
@@ -33,9 +34,7 @@ same_role (Coefficient m) (Coefficient n) = m == n
 same_role _ _ = false
 
 abbrev pub same_list : List ℕ → List ℕ → Bool
-same_list [] [] = true
-same_list (x ∷ xs) (y ∷ ys) = (x == y) && same_list xs ys
-same_list _ _ = false
+same_list = pointwise nat_eq
 
 -- ---- other environments, with t for the next parameter
 -- component c of the variable l moved by t

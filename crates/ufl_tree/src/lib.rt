@@ -6,6 +6,7 @@
 
 mod copies;
 mod function;
+pub mod laws;
 mod plain;
 mod tree;
 
