@@ -1,0 +1,5 @@
+pub mod TermValue
+pub mod PolyValue
+pub mod Scene
+pub mod Component
+pub mod Value
