@@ -7,3 +7,4 @@ pub mod WordsLaws
 pub mod TextLaws
 pub mod LoadLaws
 pub mod AnswerLaws
+pub mod StraightLaws

@@ -26,6 +26,7 @@ use Rattle.ffc.specs.declared.outcome.Spot.TheVariants as spot
 use Rattle.ffc.specs.Words.{file_name, compile_words, assemble_words}
 use Rattle.c_unit.specs.declared.unit.CUnit.{CUnit}
 use Rattle.c_text.specs.Layout.{canonical}
+use Rattle.c_text.specs.Lawful.{MeetsRules}
 use Rattle.ffc.specs.Unit.{IsMassUnit}
 use Rattle.ffc.specs.declared.outcome.Outcome.{Outcome}
 use Rattle.ffc.specs.declared.outcome.Outcome.TheVariants.{Done, Usage, Form, Mesh, Passed, ReadFault, WriteFault, Memory}
@@ -160,9 +161,9 @@ IsAnswer content form mesh text =
     (c : Fraction) × (m : MeshData Fraction) × (entries : List Entry) × Accepted content form mesh c m × AllByRecursion (IsFine m c) m.cells × AreTriples m c entries
     × (text ≡ matrix_text (codes "a") (row_count m) (row_count m) entries)
 
--- the text is the canonical one of the unit of the form with its factor
+-- the text is the canonical one of the unit of the form with its factor; the unit is lawful, so the text is read back as it
 abbrev pub IsUnitText : Option (List Held) → List ℕ → List ℕ → Type 0
-IsUnitText content form text = (c : Fraction) × HasForm content form c × ((u : CUnit) × IsMassUnit c u × (text ≡ canonical u))
+IsUnitText content form text = (c : Fraction) × HasForm content form c × ((u : CUnit) × IsMassUnit c u × MeetsRules u × (text ≡ canonical u))
 
 -- when each outcome comes where the form alone is named
 abbrev pub CompileCause : Option (List Held) → List ℕ → Outcome → Type 0

@@ -8,6 +8,7 @@ ghost use Rattle.mesh_in.specs.MeshData.{IsMesh, fractions};
 ghost use Rattle.assembly.specs.Kept.{seen};
 ghost use Rattle.form_values.specs.FormValues.{AreTriples};
 ghost use Rattle.form_values.specs.Shares.{IsFine, Refuses};
+ghost use Rattle.c_text.specs.Lawful.{MeetsRules};
 ghost use Rattle.ffc.specs.Unit.{IsMassUnit};
 
 use assembly::{RunRefusal, Triple, assemble_mass};
@@ -34,10 +35,11 @@ pub fn mass_matrix(alloc: Global, c: Ratio, mesh: &Mesh) -> Result<Vec<Triple>, 
     assemble_mass(alloc, &function, mesh)
 }
 
-/// The unit of the form `c*u*v*dx`: its function alone.
+/// The unit of the form `c*u*v*dx`: its function alone. It meets the rules of kernels, so its text is read back as it.
 pub fn mass_unit(alloc: Global, c: Ratio) -> Result<CUnit, AllocError>
     requires { IsSmallFactor (fraction_of c) }
-    ensures { IfOk result (IsMassUnit (fraction_of c)) }
+    ensures unit { IfOk result (IsMassUnit (fraction_of c)) }
+    ensures lawful { IfOk result MeetsRules }
 {
     let mut funs = Items::new(alloc);
     funs.push(plan_mass(alloc, FUNCTION_NAME, c)?)?;
