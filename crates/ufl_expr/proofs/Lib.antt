@@ -1,0 +1,4 @@
+pub mod BuildingLaws
+pub mod FreeLaws
+pub mod ArgumentLaws
+pub mod ListLaws

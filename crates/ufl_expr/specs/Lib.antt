@@ -1,0 +1,10 @@
+pub mod Answer
+pub mod Shapes
+pub mod Frees
+pub mod Table
+pub mod Sizes
+pub mod Building
+pub mod Signatures
+pub mod Invariant
+pub mod Arguments
+pub mod Extent

@@ -1,0 +1,16 @@
+//! Expressions: typed trees that obey the typing table.
+//!
+//! An `Expr` is made by its builders alone. Each of them gives the tree with the shape, the free indices and the cell that the table
+//! of its operator says, or refuses it exactly where the table or the limits do; the table stands in `specs/Table.antt`.
+#![tactic(auto)]
+
+mod arguments;
+mod expr;
+mod frees;
+mod lists;
+mod refusal;
+mod shapes;
+mod signature;
+
+pub use expr::Expr;
+pub use refusal::TypeRefusal;
