@@ -8,3 +8,5 @@ pub mod Signatures
 pub mod Invariant
 pub mod Arguments
 pub mod Extent
+pub mod Elements
+pub mod Distinct

@@ -5,11 +5,14 @@ ghost use Rattle.ufl_tree.specs.Reading.{typed_of, typed_list, kind_of, tree_wit
 ghost use Rattle.ufl_expr.specs.Answer.{Gives};
 ghost use Rattle.ufl_expr.specs.Sizes.{nodes_of, height_of};
 ghost use Rattle.ufl_expr.specs.Table.{IsTyped, plain_kind, identity_kind, one_kind, two_kind, power_kind, index_kind, partial_kind, tensor_kind, variable_kind, has_argument, label_of, list_kind};
+ghost use Rattle.ufl_expr.specs.Elements.{table_of, function_in};
 ghost use Rattle.ufl_expr.specs.Extent.{IsExtent};
 ghost use Rattle.ufl_expr.specs.Signatures.{kind_in};
 ghost use Rattle.ufl_expr.specs.Building.{built, diff_by};
 
 use crate::arguments::label_of;
+use crate::elements::Elements;
+use crate::functions::function_signature;
 use crate::lists::list_signature;
 use crate::refusal::TypeRefusal;
 use crate::signature::{
@@ -21,7 +24,7 @@ use spaces::Cell;
 use sqlite_items::{Boxed, Items};
 use std::alloc::{AllocError, Global};
 use std::marker::Model;
-use ufl_tree::{Free, Ix, Node, Op1, Op2, Tree};
+use ufl_tree::{Free, Function, Ix, Node, Op1, Op2, Tree};
 
 /// Most nodes of an expression.
 const MOST_NODES: u32 = 10_000;
@@ -202,6 +205,14 @@ impl Expr {
     {
         let signature = identity_signature(alloc, n)?;
         finish(Node::Identity(n), signature, 1, 1)
+    }
+
+    /// A function of an element in the table, with its shape and cell. `Kind` exactly where there is no such element.
+    pub fn function(alloc: Global, f: Function, elements: &Elements) -> Result<Expr, TypeRefusal>
+        ensures { Gives result (built (function_in (table_of elements.now) f) (Node.Fun f)) }
+    {
+        let signature = function_signature(alloc, f, elements)?;
+        finish(Node::Fun(f), signature, 1, 1)
     }
 
     /// An operator of one operand.

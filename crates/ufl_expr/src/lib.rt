@@ -5,12 +5,17 @@
 #![tactic(auto)]
 
 mod arguments;
+mod elements;
 mod expr;
 mod frees;
+mod functions;
 mod lists;
 mod refusal;
 mod shapes;
 mod signature;
+#[cfg(test)]
+mod tests;
 
+pub use elements::Elements;
 pub use expr::Expr;
 pub use refusal::TypeRefusal;

@@ -1,0 +1,55 @@
+-- Functions: what their elements say of them
+use Rattle.std.proofs.Common.{◌≡◌, ℕ, zero, suc, ◌+◌, List, [], ◌∷◌, map, Option, None, Some, Result, Ok, Err, slice_get, refl, sym, ap, ◌∙◌, subst}
+use Rattle.std.specs.Prelude.{IsSome}
+use Rattle.spaces.specs.declared.cell.Cell.{Cell}
+use Rattle.spaces.specs.declared.element_tree.ElementTree.{ElementTree}
+use Rattle.spaces.specs.Space.{Space, cell_of}
+use Rattle.spaces.specs.Reading.{space_of}
+use Rattle.ufl_tree.specs.declared.function.Free.{Free}
+use Rattle.ufl_tree.specs.declared.function.Function.{Function}
+use Rattle.ufl_tree.specs.declared.tree.Node.TheVariants as v
+use Rattle.ufl_tree.specs.Typed.{Kind, Typed, function}
+use Rattle.ufl_tree.specs.Reading.{typed_of, tree_with}
+use Rattle.ufl_tree.specs.Places.{Table, element_shape}
+use Rattle.ufl_tree.proofs.ReadingLaws.{typed_of-Fun}
+use Rattle.ufl_expr.specs.declared.refusal.TypeRefusal.TheVariants.{Kind as OfKind}
+use Rattle.ufl_expr.specs.Sizes.{nodes_of, height_of}
+use Rattle.ufl_expr.specs.Table.{IsTyped}
+use Rattle.ufl_expr.specs.Elements.{table_of, function_kind, function_in}
+use Rattle.ufl_expr.proofs.BuildingLaws.{Counted, counted_same}
+
+space_at : (es : List ElementTree) (k : ℕ) (e : ElementTree) → slice_get es k ≡ Some e → slice_get (table_of es) k ≡ Some (space_of e)
+space_at [] k e h = cc
+space_at (x ∷ es) zero e h = let same : x ≡ e = cc in ap (λ y. Some (space_of y)) same
+space_at (x ∷ es) (suc k) e h = space_at es k e h
+
+none_at : (es : List ElementTree) (k : ℕ) → slice_get es k ≡ None → slice_get (table_of es) k ≡ None
+none_at [] k h = refl
+none_at (x ∷ es) zero h = cc
+none_at (x ∷ es) (suc k) h = none_at es k h
+
+pub no_element : (es : List ElementTree) (k : ℕ) → None ≡ slice_get es k → function_kind (slice_get (table_of es) k) ≡ Err OfKind
+no_element es k h = ap function_kind (none_at es k (sym h))
+
+kind_same : (s : Space) (shape : List ℕ) (free : List Free) (cell : Cell) → shape ≡ element_shape s → free ≡ [] → cell ≡ cell_of s
+    → function_kind (Some s) ≡ Ok (record { shape = shape; free = free; cell = Some cell })
+kind_same s shape free cell a b c =
+    ap (λ x. Ok (record { shape = x; free = []; cell = Some (cell_of s) })) (sym a)
+    ∙ ap (λ y. Ok (record { shape = shape; free = y; cell = Some (cell_of s) })) (sym b)
+    ∙ ap (λ z. Ok (record { shape = shape; free = free; cell = Some z })) (sym c)
+
+pub of_element : (es : List ElementTree) (k : ℕ) (e : ElementTree) (shape : List ℕ) (free : List Free) (cell : Cell) → Some e ≡ slice_get es k
+    → shape ≡ element_shape (space_of e) → free ≡ [] → cell ≡ cell_of (space_of e)
+    → function_kind (slice_get (table_of es) k) ≡ Ok (record { shape = shape; free = free; cell = Some cell })
+of_element es k e shape free cell h a b c = ap function_kind (space_at es k e (sym h)) ∙ kind_same (space_of e) shape free cell a b c
+
+function_typed : (o : Option Space) (k : Kind) → function_kind o ≡ Ok k → (k.free ≡ []) × IsSome k.cell
+function_typed None k h = cc
+function_typed (Some s) k h =
+    let e : record { shape = element_shape s; free = []; cell = Some (cell_of s) } ≡ k = cc in
+    subst (λ (x : Kind). (x.free ≡ []) × IsSome x.cell) e (refl, refl)
+
+pub counted_function : (f : Function) (table : Table) (k : Kind) → function_in table f ≡ Ok k → Counted (typed_of (tree_with (v.Fun f) k)) 1 1
+unfolding IsTyped nodes_of height_of
+counted_function f table k is =
+    counted_same _ (function k f) 1 1 (typed_of-Fun f k) (record { typed = function_typed (slice_get table f.element) k is; count = refl; depth = refl })

@@ -1,0 +1,70 @@
+-- Tables of elements, and what functions of them say of their values
+use Rattle.std.specs.Prelude.{◌≡◌, ℕ, suc, ◌==◌, Bool, true, false, if◌then◌else◌, List, [], ◌∷◌, ◌++◌, map, Option, None, Some, Result, Ok, Err, slice_get}
+use Rattle.spaces.specs.declared.cell.Cell.{Cell}
+use Rattle.spaces.specs.declared.family.Family.{Family}
+use Rattle.spaces.specs.declared.family.Family.TheVariants.{Lagrange, Dg, Real}
+use Rattle.spaces.specs.declared.element_tree.ElementTree.{ElementTree}
+use Rattle.spaces.specs.Space.{Space, scalar, vector, tensor, mixed, Spaces, no_spaces, space, cell_of}
+use Rattle.spaces.specs.Reading.{space_of}
+use Rattle.ufl_tree.specs.declared.function.Function.{Function}
+use Rattle.ufl_tree.specs.Places.{Table, element_shape}
+use Rattle.ufl_expr.specs.declared.refusal.TypeRefusal.{TypeRefusal}
+use Rattle.ufl_expr.specs.declared.refusal.TypeRefusal.TheVariants.{Kind as OfKind}
+use Rattle.ufl_expr.specs.Table.{Verdict, same_cell}
+
+-- ---- equal elements
+abbrev pub same_family : Family → Family → Bool
+same_family Lagrange Lagrange = true
+same_family Dg Dg = true
+same_family Real Real = true
+same_family _ _ = false
+
+abbrev pub same_sizes : ℕ → ℕ → ℕ → ℕ → Bool
+same_sizes m n k l = if m == k then n == l else false
+
+abbrev mutual
+  pub same_space : Space → Space → Bool
+  same_space (scalar f c q) (scalar g e r) = if same_family f g then (if same_cell c e then q == r else false) else false
+  same_space (vector s m) (vector t n) = if m == n then same_space s t else false
+  same_space (tensor s m n) (tensor t k l) = if same_sizes m n k l then same_space s t else false
+  same_space (mixed ss) (mixed ts) = same_spaces ss ts
+  same_space _ _ = false
+
+  pub same_spaces : Spaces → Spaces → Bool
+  same_spaces no_spaces no_spaces = true
+  same_spaces (space s ss) (space t ts) = if same_space s t then same_spaces ss ts else false
+  same_spaces _ _ = false
+
+-- ---- tables
+abbrev pub table_of : List ElementTree → Table
+table_of = map space_of
+
+-- the number of an element, counted from n
+abbrev pub number_from : ℕ → Space → Table → Option ℕ
+number_from n s [] = None
+number_from n s (t ∷ ts) = if same_space t s then Some n else number_from (suc n) s ts
+
+abbrev pub number_of : Space → Table → Option ℕ
+number_of s ts = number_from 0 s ts
+
+abbrev pub has_space : Space → Table → Bool
+has_space s [] = false
+has_space s (t ∷ ts) = if same_space t s then true else has_space s ts
+
+-- no element stands again behind itself
+abbrev pub AreDistinct : Table → Type 0
+AreDistinct [] = Unit {0}
+AreDistinct (t ∷ ts) = (has_space t ts ≡ false) × AreDistinct ts
+
+-- the table with this element, where it isn't there yet
+abbrev pub with_element : ElementTree → List ElementTree → List ElementTree
+with_element e ts = if has_space (space_of e) (table_of ts) then ts else ts ++ e ∷ []
+
+-- ---- functions
+-- a function has the shape and the cell of its element; there may be no such element
+abbrev pub function_kind : Option Space → Verdict
+function_kind None = Err OfKind
+function_kind (Some s) = Ok (record { shape = element_shape s; free = []; cell = Some (cell_of s) })
+
+abbrev pub function_in : Table → Function → Verdict
+function_in table f = function_kind (slice_get table f.element)

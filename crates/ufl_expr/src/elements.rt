@@ -1,0 +1,172 @@
+//! Tables of elements.
+
+ghost use Rattle.std.specs.Prelude.{◌≡◌, ◌<◌, [], length, map, Some, IfOk, OnErr, OnOk, slice_get};
+ghost use Rattle.std.specs.Option.{option_copied};
+ghost use Rattle.spaces.specs.Reading.{space_of, spaces_in};
+ghost use Rattle.ufl_expr.specs.Table.{same_cell};
+ghost use Rattle.ufl_expr.specs.Elements.{same_family, same_sizes, same_space, same_spaces, table_of, number_of, with_element};
+
+use spaces::{Cell, Element, ElementTree, Family};
+use sqlite_items::Items;
+use std::alloc::{AllocError, Global};
+use std::marker::Model;
+
+/// Distinct elements, numbered from 0.
+#[derive(Drop)]
+pub struct Elements {
+    items: Items<Element>,
+}
+
+impl Model for Elements {
+    ghost use Rattle.std.specs.Prelude.{List};
+    ghost use Rattle.spaces.specs.declared.element_tree.ElementTree.{ElementTree};
+
+    ghost Value = { List ElementTree };
+
+    ghost use Rattle.spaces.specs.contracts.element_tree.ElementTree as t;
+    ghost use Rattle.std.specs.Coded.{codes, coded_list};
+
+    ghost coded = { coded_list (Prim.hlevel (codes, t.the_row.coded)) };
+
+    ghost use Rattle.ufl_expr.specs.Distinct.{IsTable};
+
+    ghost view = { λ e. e.items };
+
+    ghost invariant = { IsTable };
+}
+
+fn same_family(family: Family, other: Family) -> bool
+    ensures { result ≡ same_family family other }
+{
+    family == other
+}
+
+fn same_cell(cell: Cell, other: Cell) -> bool
+    ensures { result ≡ same_cell cell other }
+{
+    cell == other
+}
+
+/// As many rows, and as many columns.
+fn same_sizes(rows: u8, columns: u8, other_rows: u8, other_columns: u8) -> bool
+    ensures { result ≡ same_sizes rows columns other_rows other_columns }
+{
+    rows == other_rows && columns == other_columns
+}
+
+/// Equal trees.
+#[tactic(auto, using(spaces::proofs::ReadingLaws::readings))]
+#[cycle(same)]
+fn same_element(tree: &ElementTree, other: &ElementTree) -> bool
+    ensures { result ≡ same_space (space_of tree.now) (space_of other.now) }
+{
+    match tree {
+        ElementTree::Scalar {
+            family,
+            cell,
+            degree,
+        } => match other {
+            ElementTree::Scalar {
+                family: f,
+                cell: c,
+                degree: d,
+            } => same_family(*family, *f) && same_cell(*cell, *c) && *degree == *d,
+            ElementTree::Vector { .. } => false,
+            ElementTree::Tensor { .. } => false,
+            ElementTree::Mixed { .. } => false,
+        },
+        ElementTree::Vector { part, dim } => match other {
+            ElementTree::Scalar { .. } => false,
+            ElementTree::Vector { part: p, dim: d } => *dim == *d
+                && same_element(part.get(), p.get()),
+            ElementTree::Tensor { .. } => false,
+            ElementTree::Mixed { .. } => false,
+        },
+        ElementTree::Tensor { part, rows, cols } => match other {
+            ElementTree::Scalar { .. } => false,
+            ElementTree::Vector { .. } => false,
+            ElementTree::Tensor {
+                part: p,
+                rows: m,
+                cols: n,
+            } => {
+                let same = same_sizes(*rows, *cols, *m, *n);
+                same && same_element(part.get(), p.get())
+            }
+            ElementTree::Mixed { .. } => false,
+        },
+        ElementTree::Mixed { parts } => match other {
+            ElementTree::Scalar { .. } => false,
+            ElementTree::Vector { .. } => false,
+            ElementTree::Tensor { .. } => false,
+            ElementTree::Mixed { parts: ps } => same_elements(parts.as_slice(), ps.as_slice()),
+        },
+    }
+}
+
+/// Equal trees, one by one.
+#[cycle(same)]
+fn same_elements(trees: &[ElementTree], others: &[ElementTree]) -> bool
+    ensures { result ≡ same_spaces (spaces_in trees.now) (spaces_in others.now) }
+{
+    let mut left = others;
+    for tree in trees {
+        match left.split_first() {
+            None => return false,
+            Some((other, rest)) => {
+                if !same_element(tree, other) {
+                    return false;
+                }
+                left = rest;
+            }
+        }
+    }
+    left.is_empty()
+}
+
+/// The number of an equal element.
+fn number_of(tree: &ElementTree, items: &[Element]) -> Option<usize>
+    ensures { result ≡ number_of (space_of tree.now) (table_of items.now) }
+{
+    for number in 0..items.len() {
+        if same_element(items[number].tree(), tree) {
+            return Some(number);
+        }
+    }
+    None
+}
+
+impl Elements {
+    /// No elements.
+    pub fn new(alloc: Global) -> Elements
+        ensures { result ≡ [] }
+    {
+        Elements {
+            items: Items::new(alloc),
+        }
+    }
+
+    /// The element of this number, or `None` exactly where there is none.
+    pub fn get(&self, number: u16) -> Option<&Element>
+        ensures { option_copied result ≡ slice_get self.now number }
+    {
+        self.items.get(number as usize)
+    }
+
+    /// The number of the equal element, which is added behind the others where there is none yet.
+    pub fn add(&mut self, element: Element) -> Result<u16, AllocError>
+        requires { length self.old < 65536 }
+        ensures number { IfOk result (λ k. slice_get (table_of self.new) k ≡ Some (space_of element)) }
+        ensures table { OnOk result (self.new ≡ with_element element self.old) }
+        ensures err { OnErr result (self.new ≡ self.old) }
+    {
+        match number_of(element.tree(), self.items.as_slice()) {
+            Some(number) => Ok(number as u16),
+            None => {
+                let number = self.items.len() as u16;
+                self.items.push(element)?;
+                Ok(number)
+            }
+        }
+    }
+}
