@@ -1,12 +1,11 @@
 -- Whether an argument occurs, and the label of a variable, node by node
-use Rattle.std.proofs.Common.{◌≡◌, ℕ, Bool, true, false, if◌then◌else◌, List, map, Result, Ok, Err, refl, sym, ap, ◌∙◌}
+use Rattle.std.proofs.Common.{◌≡◌, ℕ, true, false, if◌then◌else◌, List, map, Ok, Err, refl, sym, ap, ◌∙◌}
 use Rattle.ratio.specs.declared.reduced.Ratio.{Ratio}
 use Rattle.ufl_tree.specs.declared.function.Function.{Function}
 use Rattle.ufl_tree.specs.declared.function.Ix.{Ix}
 use Rattle.ufl_tree.specs.declared.tree.Op1.{Op1}
 use Rattle.ufl_tree.specs.declared.tree.Op2.{Op2}
 use Rattle.ufl_tree.specs.declared.tree.Tree.{Tree, fold_out-Tree}
-use Rattle.ufl_tree.specs.declared.tree.Node.{Node}
 use Rattle.ufl_tree.specs.declared.tree.Node.TheOpen.{Node-F}
 use Rattle.ufl_tree.specs.declared.tree.Node.TheFolds.{fold_out-Node}
 use Rattle.ufl_tree.specs.declared.tree.Node.TheVariants as v

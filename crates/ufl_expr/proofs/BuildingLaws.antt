@@ -1,9 +1,8 @@
 -- What a builder owes: its tree obeys the table, and its nodes and its height are counted
-use Rattle.std.proofs.Common.{◌≡◌, true≢false, ℕ, ◌+◌, ◌≤◌, max, List, [], ◌∷◌, ◌++◌, append-nil, refl, sym, ap, ap₂, ◌∙◌, subst, Option, None, Some, Result, Ok, Err, inl, inr}
+use Rattle.std.proofs.Common.{◌≡◌, true≢false, ℕ, ◌+◌, ◌≤◌, max, List, [], ◌++◌, append-nil, refl, sym, ap, ap₂, ◌∙◌, subst, Option, Result, Ok, Err, inl, inr}
 use Rattle.std.specs.Result.{IsErr, IsErrAnd}
 use Rattle.ratio.specs.declared.reduced.Ratio.{Ratio}
 use Rattle.spaces.specs.declared.cell.Cell.{Cell}
-use Rattle.ufl_tree.specs.declared.function.Free.{Free}
 use Rattle.ufl_tree.specs.declared.function.Ix.{Ix}
 use Rattle.ufl_tree.specs.declared.tree.Op1.{Op1}
 use Rattle.ufl_tree.specs.declared.tree.Op2.{Op2}
@@ -12,7 +11,7 @@ use Rattle.ufl_tree.specs.declared.tree.Node.{Node}
 use Rattle.ufl_tree.specs.declared.tree.Node.TheOpen.{Node-F}
 use Rattle.ufl_tree.specs.declared.tree.Node.TheFolds.{fold_out-Node}
 use Rattle.ufl_tree.specs.declared.tree.Node.TheVariants as v
-use Rattle.ufl_tree.specs.Typed.{Kind, Typed, number, identity, function, piece, one, two, power, index, partial, tensor, list, variable, diff, own_kind}
+use Rattle.ufl_tree.specs.Typed.{Kind, Typed, number, identity, one, two, power, index, partial, tensor, variable, diff, own_kind}
 use Rattle.ufl_tree.specs.Reading.{typed_of, node_layer, tree_layer, kind_of, tree_with}
 use Rattle.ufl_tree.proofs.ReadingLaws.{typed_of-Number, typed_of-Identity, typed_of-One, typed_of-Two, typed_of-Power, typed_of-Index, typed_of-Partial, typed_of-Tensor, typed_of-Variable, typed_of-Diff}
 use Rattle.ufl_expr.specs.declared.refusal.TypeRefusal.{TypeRefusal}

@@ -1,5 +1,5 @@
 -- Functions: what their elements say of them
-use Rattle.std.proofs.Common.{◌≡◌, ℕ, zero, suc, ◌+◌, List, [], ◌∷◌, map, Option, None, Some, Result, Ok, Err, slice_get, refl, sym, ap, ◌∙◌, subst}
+use Rattle.std.proofs.Common.{◌≡◌, ℕ, zero, suc, List, [], ◌∷◌, Option, None, Some, Ok, Err, slice_get, refl, sym, ap, ◌∙◌, subst}
 use Rattle.std.specs.Prelude.{IsSome}
 use Rattle.spaces.specs.declared.cell.Cell.{Cell}
 use Rattle.spaces.specs.declared.element_tree.ElementTree.{ElementTree}
@@ -8,14 +8,15 @@ use Rattle.spaces.specs.Reading.{space_of}
 use Rattle.ufl_tree.specs.declared.function.Free.{Free}
 use Rattle.ufl_tree.specs.declared.function.Function.{Function}
 use Rattle.ufl_tree.specs.declared.tree.Node.TheVariants as v
-use Rattle.ufl_tree.specs.Typed.{Kind, Typed, function}
+use Rattle.ufl_tree.specs.Typed.{Kind, function, piece}
 use Rattle.ufl_tree.specs.Reading.{typed_of, tree_with}
-use Rattle.ufl_tree.specs.Places.{Table, element_shape}
-use Rattle.ufl_tree.proofs.ReadingLaws.{typed_of-Fun}
+use Rattle.ufl_tree.specs.Places.{Table, element_shape, Piece, piece_of, sub_element}
+use Rattle.ufl_tree.proofs.ReadingLaws.{typed_of-Fun, typed_of-Piece}
 use Rattle.ufl_expr.specs.declared.refusal.TypeRefusal.TheVariants.{Kind as OfKind}
 use Rattle.ufl_expr.specs.Sizes.{nodes_of, height_of}
-use Rattle.ufl_expr.specs.Table.{IsTyped}
-use Rattle.ufl_expr.specs.Elements.{table_of, function_kind, function_in}
+use Rattle.ufl_expr.specs.Answer.{Gives}
+use Rattle.ufl_expr.specs.Table.{IsTyped, Verdict}
+use Rattle.ufl_expr.specs.Elements.{table_of, function_kind, function_in, piece_kind, piece_in}
 use Rattle.ufl_expr.proofs.BuildingLaws.{Counted, counted_same}
 
 space_at : (es : List ElementTree) (k : ℕ) (e : ElementTree) → slice_get es k ≡ Some e → slice_get (table_of es) k ≡ Some (space_of e)
@@ -53,3 +54,24 @@ pub counted_function : (f : Function) (table : Table) (k : Kind) → function_in
 unfolding IsTyped nodes_of height_of
 counted_function f table k is =
     counted_same _ (function k f) 1 1 (typed_of-Fun f k) (record { typed = function_typed (slice_get table f.element) k is; count = refl; depth = refl })
+
+piece_typed : (o : Option Space) (p : Option Piece) (k : Kind) → piece_kind o p ≡ Ok k → (k.free ≡ []) × IsSome k.cell
+piece_typed None p k h = cc
+piece_typed (Some s) None k h = cc
+piece_typed (Some s) (Some p) k h =
+    let e : record { shape = element_shape p.space; free = []; cell = Some (cell_of s) } ≡ k = cc in
+    subst (λ (x : Kind). (x.free ≡ []) × IsSome x.cell) e (refl, refl)
+
+pub counted_piece : (f : Function) (n : ℕ) (table : Table) (k : Kind) → piece_in table f n ≡ Ok k → Counted (typed_of (tree_with (v.Piece f n) k)) 1 1
+unfolding IsTyped nodes_of height_of
+counted_piece f n table k is =
+    counted_same _ (piece k f n) 1 1 (typed_of-Piece f n k)
+    (record { typed = piece_typed (slice_get table f.element) (sub_element (slice_get table f.element) n) k is; count = refl; depth = refl })
+
+-- the part of a function of an element that is there
+pub piece_at : (es : List ElementTree) (k n : ℕ) (e : ElementTree) (w : Verdict) → Some e ≡ slice_get es k
+    → Gives w (piece_kind (Some (space_of e)) (piece_of (space_of e) n)) → Gives w (piece_kind (slice_get (table_of es) k) (sub_element (slice_get (table_of es) k) n))
+piece_at es k n e w h g = subst (λ o. Gives w (piece_kind o (sub_element o n))) (sym (space_at es k e (sym h))) g
+
+pub no_piece : (es : List ElementTree) (k n : ℕ) → None ≡ slice_get es k → piece_kind (slice_get (table_of es) k) (sub_element (slice_get (table_of es) k) n) ≡ Err OfKind
+no_piece es k n h = ap (λ o. piece_kind o (sub_element o n)) (none_at es k (sym h))

@@ -4,3 +4,4 @@ pub mod ArgumentLaws
 pub mod ListLaws
 pub mod ElementLaws
 pub mod FunctionLaws
+pub mod PieceLaws

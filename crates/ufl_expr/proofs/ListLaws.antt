@@ -1,10 +1,10 @@
 -- Lists of expressions: what is counted so far, and the tree of all
-use Rattle.std.proofs.Common.{◌≡◌, ℕ, ◌+◌, ◌*◌, ◌<◌, ◌≤◌, max, Bool, true, false, nat_le, ◌&&◌, List, [], ◌∷◌, length, map, drop, get_or, drop-cons, add-one, refl, sym, ap, ap₂, ◌∙◌, subst, Result, Ok, Err, None, arith}
+use Rattle.std.proofs.Common.{◌≡◌, ℕ, ◌+◌, ◌*◌, ◌<◌, ◌≤◌, max, Bool, true, false, nat_le, ◌&&◌, List, [], ◌∷◌, length, map, drop, get_or, drop-cons, add-one, refl, sym, ap, ap₂, ◌∙◌, subst, Ok, Err, None, arith}
 use Rattle.std.proofs.lemmas.Bool.{leb-true}
 use Rattle.std.proofs.lemmas.List.{length-map}
 use Rattle.ufl_tree.specs.declared.tree.Tree.{Tree}
 use Rattle.ufl_tree.specs.declared.tree.Node.TheVariants as v
-use Rattle.ufl_tree.specs.Typed.{Kind, Typed, list, TypedList, no_items, item, own_kind}
+use Rattle.ufl_tree.specs.Typed.{Kind, Typed, list, TypedList, no_items, item}
 use Rattle.ufl_tree.specs.Reading.{typed_of, typed_list, kind_of, tree_with}
 use Rattle.ufl_tree.proofs.ReadingLaws.{typed_of-List}
 use Rattle.ufl_expr.specs.Sizes.{nodes_of, nodes_of_all, height_of, height_of_all}

@@ -1,14 +1,14 @@
 -- What a builder gives
-use Rattle.std.specs.Prelude.{ℕ, ◌&&◌, Bool, nat_le, if◌then◌else◌, Option, None, Some, Result, Ok, Err}
+use Rattle.std.specs.Prelude.{ℕ, ◌&&◌, Bool, nat_le, if◌then◌else◌, Result, Ok, Err}
 use Rattle.ufl_tree.specs.declared.tree.Tree.{Tree}
 use Rattle.ufl_tree.specs.declared.tree.Node.{Node}
 use Rattle.ufl_tree.specs.declared.tree.Node.TheVariants.{Diff}
-use Rattle.ufl_tree.specs.Typed.{Kind, Typed}
+use Rattle.ufl_tree.specs.Typed.{Typed}
 use Rattle.ufl_tree.specs.Reading.{typed_of, kind_of, tree_with}
 use Rattle.ufl_expr.specs.declared.refusal.TypeRefusal.{TypeRefusal}
 use Rattle.ufl_expr.specs.declared.refusal.TypeRefusal.TheVariants.{Nodes}
 use Rattle.ufl_expr.specs.Sizes.{nodes_of, height_of}
-use Rattle.ufl_expr.specs.Table.{Verdict, diff_kind, label_of}
+use Rattle.ufl_expr.specs.Table.{Verdict, diff_kind}
 
 -- at most 10,000 nodes and a height of at most 128
 unfoldable pub fits : Typed → Bool

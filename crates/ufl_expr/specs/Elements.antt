@@ -1,14 +1,12 @@
 -- Tables of elements, and what functions of them say of their values
-use Rattle.std.specs.Prelude.{◌≡◌, ℕ, suc, ◌==◌, Bool, true, false, if◌then◌else◌, List, [], ◌∷◌, ◌++◌, map, Option, None, Some, Result, Ok, Err, slice_get}
-use Rattle.spaces.specs.declared.cell.Cell.{Cell}
+use Rattle.std.specs.Prelude.{◌≡◌, ℕ, suc, ◌==◌, Bool, true, false, if◌then◌else◌, List, [], ◌∷◌, ◌++◌, map, Option, None, Some, Ok, Err, slice_get}
 use Rattle.spaces.specs.declared.family.Family.{Family}
 use Rattle.spaces.specs.declared.family.Family.TheVariants.{Lagrange, Dg, Real}
 use Rattle.spaces.specs.declared.element_tree.ElementTree.{ElementTree}
 use Rattle.spaces.specs.Space.{Space, scalar, vector, tensor, mixed, Spaces, no_spaces, space, cell_of}
 use Rattle.spaces.specs.Reading.{space_of}
 use Rattle.ufl_tree.specs.declared.function.Function.{Function}
-use Rattle.ufl_tree.specs.Places.{Table, element_shape}
-use Rattle.ufl_expr.specs.declared.refusal.TypeRefusal.{TypeRefusal}
+use Rattle.ufl_tree.specs.Places.{Table, element_shape, Piece, sub_element}
 use Rattle.ufl_expr.specs.declared.refusal.TypeRefusal.TheVariants.{Kind as OfKind}
 use Rattle.ufl_expr.specs.Table.{Verdict, same_cell}
 
@@ -68,3 +66,12 @@ function_kind (Some s) = Ok (record { shape = element_shape s; free = []; cell =
 
 abbrev pub function_in : Table → Function → Verdict
 function_in table f = function_kind (slice_get table f.element)
+
+-- a part of a function of a mixed element has the shape of its own element, and the cell of all; there may be no such part
+abbrev pub piece_kind : Option Space → Option Piece → Verdict
+piece_kind None p = Err OfKind
+piece_kind (Some s) None = Err OfKind
+piece_kind (Some s) (Some p) = Ok (record { shape = element_shape p.space; free = []; cell = Some (cell_of s) })
+
+abbrev pub piece_in : Table → Function → ℕ → Verdict
+piece_in table f k = piece_kind (slice_get table f.element) (sub_element (slice_get table f.element) k)

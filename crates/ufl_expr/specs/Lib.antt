@@ -10,3 +10,4 @@ pub mod Arguments
 pub mod Extent
 pub mod Elements
 pub mod Distinct
+pub mod Few

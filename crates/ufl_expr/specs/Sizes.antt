@@ -1,6 +1,6 @@
 -- The number of nodes and the height of a typed tree
-use Rattle.std.specs.Prelude.{ℕ, ◌+◌, ◌≤◌, max}
-use Rattle.ufl_tree.specs.Typed.{Kind, Typed, number, identity, function, piece, one, two, power, index, partial, tensor, list, variable, diff, TypedList, no_items, item}
+use Rattle.std.specs.Prelude.{ℕ, ◌+◌, max}
+use Rattle.ufl_tree.specs.Typed.{Typed, number, identity, function, piece, one, two, power, index, partial, tensor, list, variable, diff, TypedList, no_items, item}
 
 unfoldable mutual
   pub nodes_of : Typed → ℕ

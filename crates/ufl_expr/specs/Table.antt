@@ -1,19 +1,16 @@
 -- The typing table: what each node says of its value, from what its operands say of theirs.
 -- Source: M. Alnaes and others, Unified Form Language, ACM TOMS 40 (2014), sections 3 and 4
-use Rattle.std.specs.Prelude.{◌≡◌, ◌≤◌, ℕ, ◌==◌, ◌&&◌, Bool, true, false, nat_le, nat_lt, if◌then◌else◌, List, [], ◌∷◌, ◌++◌, length, Option, None, Some, Result, Ok, Err, IsSome, map}
-use Rattle.ratio.specs.declared.reduced.Ratio.{Ratio}
+use Rattle.std.specs.Prelude.{◌≡◌, ◌≤◌, ℕ, ◌&&◌, Bool, true, false, nat_le, if◌then◌else◌, List, [], ◌∷◌, ◌++◌, length, Option, None, Some, Result, Ok, Err, IsSome}
 use Rattle.spaces.specs.declared.cell.Cell.{Cell}
 use Rattle.spaces.specs.declared.cell.Cell.TheVariants.{Interval, Triangle, Tetrahedron}
 use Rattle.ufl_tree.specs.declared.function.Free.{Free}
-use Rattle.ufl_tree.specs.declared.function.Function.{Function}
 use Rattle.ufl_tree.specs.declared.function.Role.{Role}
 use Rattle.ufl_tree.specs.declared.function.Role.TheVariants.{Test, Trial, Coefficient}
 use Rattle.ufl_tree.specs.declared.function.Ix.{Ix}
-use Rattle.ufl_tree.specs.declared.function.Ix.TheVariants.{Fixed, Named}
 use Rattle.ufl_tree.specs.declared.tree.Op1.{Op1}
 use Rattle.ufl_tree.specs.declared.tree.Op2.{Op2}
 use Rattle.ufl_tree.specs.Typed.{Kind, Typed, number, identity, function, piece, one, two, power, index, partial, tensor, list, variable, diff, TypedList, no_items, item, own_kind}
-use Rattle.ufl_tree.specs.Indices.{named, direction, cell_size}
+use Rattle.ufl_tree.specs.Indices.{named, direction}
 use Rattle.ufl_expr.specs.declared.refusal.TypeRefusal.{TypeRefusal}
 use Rattle.ufl_expr.specs.declared.refusal.TypeRefusal.TheVariants.{Kind as OfKind, Shape, FreeIndex}
 use Rattle.ufl_expr.specs.Shapes.{ShapeVerdict, shape_if, same_shape, is_scalar, dimension_of, in_dimension, one_shape, two_shape, rest_shape, along_shape}

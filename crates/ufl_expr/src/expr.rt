@@ -5,7 +5,7 @@ ghost use Rattle.ufl_tree.specs.Reading.{typed_of, typed_list, kind_of, tree_wit
 ghost use Rattle.ufl_expr.specs.Answer.{Gives};
 ghost use Rattle.ufl_expr.specs.Sizes.{nodes_of, height_of};
 ghost use Rattle.ufl_expr.specs.Table.{IsTyped, plain_kind, identity_kind, one_kind, two_kind, power_kind, index_kind, partial_kind, tensor_kind, variable_kind, has_argument, label_of, list_kind};
-ghost use Rattle.ufl_expr.specs.Elements.{table_of, function_in};
+ghost use Rattle.ufl_expr.specs.Elements.{table_of, function_in, piece_in};
 ghost use Rattle.ufl_expr.specs.Extent.{IsExtent};
 ghost use Rattle.ufl_expr.specs.Signatures.{kind_in};
 ghost use Rattle.ufl_expr.specs.Building.{built, diff_by};
@@ -14,6 +14,7 @@ use crate::arguments::label_of;
 use crate::elements::Elements;
 use crate::functions::function_signature;
 use crate::lists::list_signature;
+use crate::pieces::piece_signature;
 use crate::refusal::TypeRefusal;
 use crate::signature::{
     Signature, diff_signature, identity_signature, index_signature, one_signature,
@@ -213,6 +214,19 @@ impl Expr {
     {
         let signature = function_signature(alloc, f, elements)?;
         finish(Node::Fun(f), signature, 1, 1)
+    }
+
+    /// The sub-element `which` of a function of a mixed element in the table, with its shape and cell. `Kind` exactly where there is none.
+    pub fn piece(
+        alloc: Global,
+        f: Function,
+        elements: &Elements,
+        which: u8,
+    ) -> Result<Expr, TypeRefusal>
+        ensures { Gives result (built (piece_in (table_of elements.now) f which) (Node.Piece f which)) }
+    {
+        let signature = piece_signature(alloc, f, elements, which)?;
+        finish(Node::Piece { f, which }, signature, 1, 1)
     }
 
     /// An operator of one operand.

@@ -10,6 +10,7 @@ mod expr;
 mod frees;
 mod functions;
 mod lists;
+mod pieces;
 mod refusal;
 mod shapes;
 mod signature;

@@ -326,3 +326,37 @@ fn different_cells(rt: HostRuntime) {
     assert!(rt; gives(mixed(alloc), KIND));
     assert!(rt; gives(whole(alloc, Role::Test, None), KIND));
 }
+
+/// A vector and a scalar on the triangle.
+fn flow_and_pressure(alloc: Global) -> Option<Element> {
+    let parts = vec![in alloc; vector(alloc, Cell::Triangle)?, scalar(Cell::Triangle)?].ok()?;
+    Element::mixed(alloc, parts).ok()
+}
+
+/// The same within a mixed element, before a scalar.
+fn nested(alloc: Global) -> Option<Element> {
+    let parts = vec![in alloc; flow_and_pressure(alloc)?, scalar(Cell::Triangle)?].ok()?;
+    Element::mixed(alloc, parts).ok()
+}
+
+fn piece(alloc: Global, element: Option<Element>, which: u8) -> Result<Expr, TypeRefusal> {
+    let mut elements = Elements::new(alloc);
+    if let Some(element) = element {
+        elements.add(element)?;
+    }
+    let f = Function {
+        role: Role::Test,
+        element: 0,
+    };
+    Expr::piece(alloc, f, &elements, which)
+}
+
+#[test]
+fn parts_of_functions(rt: HostRuntime) {
+    let alloc = rt.alloc();
+    assert!(rt; gives(piece(alloc, flow_and_pressure(alloc), 0), Ok(&[2])));
+    assert!(rt; gives(piece(alloc, flow_and_pressure(alloc), 1), Ok(&[])));
+    assert!(rt; gives(piece(alloc, flow_and_pressure(alloc), 2), KIND));
+    assert!(rt; gives(piece(alloc, nested(alloc), 0), Ok(&[3])));
+    assert!(rt; gives(piece(alloc, scalar(Cell::Triangle), 0), KIND));
+}

@@ -1,6 +1,6 @@
-use Rattle.std.proofs.Common.{◌+◌, ◌*◌, ◌<◌, ◌≤◌, max, drop, arith}
+use Rattle.std.proofs.Common.{drop, arith}
 use Rattle.std.proofs.lemmas.List.{drop_all}
-use Rattle.ufl_expr.proofs.ListLaws.{Counting, listed, extended_start, extended_step, extent_of}
+use Rattle.ufl_expr.proofs.ListLaws.{listed, extended_start, extended_step, extent_of}
 use Rattle.ufl_expr.proofs.expr.extent_of.Goals as goal
 
 pub loop-item-init : goal.loop-item-init

@@ -1,4 +1,4 @@
-use Rattle.std.proofs.Common.{refl, ap, ap₂, Ok, ◌++◌}
+use Rattle.std.proofs.Common.{refl, ap₂, Ok, ◌++◌}
 use Rattle.ufl_expr.specs.Table.{diff_cell, joined_cell}
 use Rattle.ufl_expr.proofs.BuildingLaws.{gives_from}
 use Rattle.ufl_expr.proofs.signature.diff_signature.Goals as goal

@@ -1,4 +1,4 @@
-use Rattle.std.proofs.Common.{refl, ap, Ok}
+use Rattle.std.proofs.Common.{ap, Ok}
 use Rattle.ufl_tree.specs.Reading.{typed_of}
 use Rattle.ufl_expr.specs.Frees.{none_free}
 use Rattle.ufl_expr.specs.Table.{has_argument, variable_cell}

@@ -1,4 +1,4 @@
-use Rattle.std.proofs.Common.{◌≡◌, ◌<◌, ◌≤◌, ◌∙◌, length, arith}
+use Rattle.std.proofs.Common.{◌∙◌, arith}
 use Rattle.spaces.specs.Reading.{space_of}
 use Rattle.ufl_expr.specs.Elements.{table_of}
 use Rattle.ufl_expr.proofs.ElementLaws.{found_at, found_within, kept_table, number_moved, added_new, longer_new, distinct_added}

@@ -1,8 +1,7 @@
-use Rattle.std.proofs.Common.{◌≡◌, ap, sym, ◌∙◌}
-use Rattle.ufl_tree.specs.declared.tree.Tree.{Tree}
+use Rattle.std.proofs.Common.{sym, ◌∙◌}
 use Rattle.ufl_tree.specs.Reading.{kind_of}
 use Rattle.ufl_expr.specs.Signatures.{kind_in}
-use Rattle.ufl_expr.proofs.BuildingLaws.{Counted, moved, counted_diff, built_diff, refused_diff, no_variable, same_kind, gives_same, gives_passed, gives_memory}
+use Rattle.ufl_expr.proofs.BuildingLaws.{moved, counted_diff, built_diff, refused_diff, no_variable, same_kind, gives_same, gives_passed, gives_memory}
 use Rattle.ufl_expr.specs.Table.{diff_kind}
 use Rattle.ufl_expr.proofs.expr.Expr.diff.Goals as goal
 

@@ -1,9 +1,9 @@
-use Rattle.std.proofs.Common.{◌≡◌, ap, ◌∙◌, sym}
+use Rattle.std.proofs.Common.{ap, ◌∙◌, sym}
 use Rattle.ufl_tree.specs.declared.tree.Node.TheVariants as v
 use Rattle.ufl_expr.specs.Building.{built}
 use Rattle.ufl_expr.specs.Elements.{table_of}
 use Rattle.ufl_expr.specs.Signatures.{kind_in}
-use Rattle.ufl_expr.proofs.BuildingLaws.{Counted, gives_same, gives_passed, refused_built}
+use Rattle.ufl_expr.proofs.BuildingLaws.{gives_same, gives_passed, refused_built}
 use Rattle.ufl_expr.proofs.FunctionLaws.{counted_function}
 use Rattle.ufl_expr.proofs.expr.Expr.function.Goals as goal
 

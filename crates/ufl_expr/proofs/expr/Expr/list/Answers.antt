@@ -8,7 +8,7 @@ use Rattle.ufl_expr.specs.Table.{list_kind}
 use Rattle.ufl_expr.specs.Signatures.{kind_in}
 use Rattle.ufl_expr.specs.Building.{built}
 use Rattle.ufl_expr.proofs.ListLaws.{listed, counted_list, list_length}
-use Rattle.ufl_expr.proofs.BuildingLaws.{Counted, refused_built, gives_same, gives_passed, gives_memory}
+use Rattle.ufl_expr.proofs.BuildingLaws.{refused_built, gives_same, gives_passed, gives_memory}
 use Rattle.ufl_expr.proofs.expr.Expr.list.Goals as goal
 
 pub extent_of-nodes-requires : goal.extent_of-nodes-requires

@@ -1,11 +1,10 @@
-use Rattle.std.proofs.Common.{◌≡◌, ℕ, List, ap, ◌∙◌}
-use Rattle.ufl_tree.specs.declared.function.Ix.{Ix}
+use Rattle.std.proofs.Common.{ℕ, List, ◌∙◌}
 use Rattle.ufl_tree.specs.declared.tree.Tree.{Tree}
 use Rattle.ufl_tree.specs.declared.tree.Node.TheVariants as v
 use Rattle.ufl_tree.specs.Reading.{kind_of}
 use Rattle.ufl_expr.specs.Table.{tensor_kind}
 use Rattle.ufl_expr.specs.Signatures.{kind_in}
-use Rattle.ufl_expr.proofs.BuildingLaws.{Counted, moved, same_kinds, counted_tensor, built_as_two, refused_as, gives_same, gives_passed, gives_memory}
+use Rattle.ufl_expr.proofs.BuildingLaws.{moved, same_kinds, counted_tensor, built_as_two, refused_as, gives_same, gives_passed, gives_memory}
 use Rattle.ufl_expr.proofs.expr.Expr.tensor.Goals as goal
 
 pub finish-requires : goal.finish-requires

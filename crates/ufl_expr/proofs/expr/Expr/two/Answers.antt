@@ -1,10 +1,10 @@
-use Rattle.std.proofs.Common.{◌≡◌, ap, ◌∙◌, ◌+◌, max}
+use Rattle.std.proofs.Common.{ap, ◌∙◌, ◌+◌}
 use Rattle.ufl_tree.specs.declared.tree.Tree.{Tree}
 use Rattle.ufl_tree.specs.declared.tree.Node.TheVariants as v
 use Rattle.ufl_tree.specs.Reading.{kind_of}
 use Rattle.ufl_expr.specs.Table.{two_kind}
 use Rattle.ufl_expr.specs.Signatures.{kind_in}
-use Rattle.ufl_expr.proofs.BuildingLaws.{Counted, moved, same_kinds, counted_two, built_as_two, refused_as_two, gives_same, gives_passed}
+use Rattle.ufl_expr.proofs.BuildingLaws.{moved, same_kinds, counted_two, built_as_two, refused_as_two, gives_same, gives_passed}
 use Rattle.ufl_expr.proofs.expr.Expr.two.Goals as goal
 
 pub finish-requires : goal.finish-requires

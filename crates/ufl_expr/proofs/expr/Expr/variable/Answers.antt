@@ -1,10 +1,10 @@
-use Rattle.std.proofs.Common.{◌≡◌, ap, ◌∙◌}
+use Rattle.std.proofs.Common.{◌∙◌}
 use Rattle.ufl_tree.specs.declared.tree.Tree.{Tree}
 use Rattle.ufl_tree.specs.declared.tree.Node.TheVariants as v
 use Rattle.ufl_tree.specs.Reading.{kind_of, typed_of}
 use Rattle.ufl_expr.specs.Table.{variable_kind, has_argument}
 use Rattle.ufl_expr.specs.Signatures.{kind_in}
-use Rattle.ufl_expr.proofs.BuildingLaws.{Counted, moved, same_kind, counted_variable, built_as, refused_as, gives_same, gives_passed, gives_memory}
+use Rattle.ufl_expr.proofs.BuildingLaws.{moved, same_kind, counted_variable, built_as, refused_as, gives_same, gives_passed, gives_memory}
 use Rattle.ufl_expr.proofs.expr.Expr.variable.Goals as goal
 
 pub finish-requires : goal.finish-requires
