@@ -5,3 +5,4 @@ pub mod ListLaws
 pub mod ElementLaws
 pub mod FunctionLaws
 pub mod PieceLaws
+pub mod FitLaws

@@ -11,3 +11,4 @@ pub mod Extent
 pub mod Elements
 pub mod Distinct
 pub mod Few
+pub mod Fits

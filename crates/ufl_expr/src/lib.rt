@@ -7,6 +7,7 @@
 mod arguments;
 mod elements;
 mod expr;
+mod fitting;
 mod frees;
 mod functions;
 mod lists;
@@ -19,4 +20,5 @@ mod tests;
 
 pub use elements::Elements;
 pub use expr::Expr;
+pub use fitting::fitting_law;
 pub use refusal::TypeRefusal;
