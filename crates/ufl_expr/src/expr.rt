@@ -229,7 +229,8 @@ impl Expr {
         finish(Node::Piece { f, which }, signature, 1, 1)
     }
 
-    /// An operator of one operand.
+    /// An operator of one operand. A derivative is refused as `Kind` exactly where no function occurs; an operator is refused as `Shape`
+    /// exactly where it takes no operand of this shape.
     pub fn one(alloc: Global, op: Op1, a: Expr) -> Result<Expr, TypeRefusal>
         ensures { Gives result (built (one_kind op (kind_of a)) (Node.One op a)) }
     {
@@ -243,7 +244,8 @@ impl Expr {
         finish(node, signature, nodes + 1, height + 1)
     }
 
-    /// An operator of two operands.
+    /// An operator of two operands. `Kind` exactly where they are on two cells, then `Shape` exactly where their shapes don't go together, then
+    /// `FreeIndex` exactly where their free indices don't.
     pub fn two(alloc: Global, op: Op2, a: Expr, b: Expr) -> Result<Expr, TypeRefusal>
         ensures { Gives result (built (two_kind op (kind_of a) (kind_of b)) (Node.Two op a b)) }
     {
@@ -262,7 +264,7 @@ impl Expr {
         finish(node, signature, m + n + 1, larger(h, k) + 1)
     }
 
-    /// A power of a scalar without free indices.
+    /// A power of a scalar, else `Shape`, without free indices, else `FreeIndex`.
     pub fn power(alloc: Global, a: Expr, n: u8) -> Result<Expr, TypeRefusal>
         requires { n ≤ 127 }
         ensures { Gives result (built (power_kind (kind_of a)) (Node.Power a n)) }
@@ -277,7 +279,8 @@ impl Expr {
         finish(node, signature, nodes + 1, height + 1)
     }
 
-    /// The component at these indices; an index that occurs twice, in the operand or here, is summed.
+    /// The component at these indices; an index that occurs twice, in the operand or here, is summed. `Shape` exactly where there are more
+    /// indices than sizes or a number isn't below its size, then `FreeIndex` exactly where an index occurs more than twice or has two sizes.
     pub fn index(alloc: Global, a: Expr, at: &[Ix]) -> Result<Expr, TypeRefusal>
         ensures { Gives result (built (index_kind (kind_of a) at.now) (Node.Index a at.now)) }
     {
@@ -291,7 +294,8 @@ impl Expr {
         finish(node, signature, nodes + 1, height + 1)
     }
 
-    /// The derivative in this direction; an index that occurs in the operand too is summed.
+    /// The derivative in this direction; an index that occurs in the operand too is summed. `Kind` exactly where no function occurs, then
+    /// `Shape` exactly where a number isn't below the dimension, then `FreeIndex` exactly where the index has another size in the operand.
     pub fn partial(alloc: Global, a: Expr, at: Ix) -> Result<Expr, TypeRefusal>
         ensures { Gives result (built (partial_kind (kind_of a) at) (Node.Partial a at)) }
     {
@@ -305,7 +309,7 @@ impl Expr {
         finish(node, signature, nodes + 1, height + 1)
     }
 
-    /// The tensor whose components are the values of a scalar at the values of these free indices of it.
+    /// The tensor whose components are the values of a scalar, else `Shape`, at the values of distinct free indices of it, else `FreeIndex`.
     pub fn tensor(alloc: Global, a: Expr, by: &[u16]) -> Result<Expr, TypeRefusal>
         ensures { Gives result (built (tensor_kind (kind_of a) by.now) (Node.Tensor a by.now)) }
     {
