@@ -1,0 +1,5 @@
+pub mod PatternLaws
+pub mod ArgumentLaws
+pub mod DirectionLaws
+pub mod FormReadings
+pub mod FormLaws
