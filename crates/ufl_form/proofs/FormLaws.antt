@@ -1,5 +1,6 @@
 -- What a builder of forms owes: its tree obeys the table, and what is kept beside it is what the definitions say of the tree
 use Rattle.std.proofs.Common.{◌≡◌, true≢false, ℕ, Bool, true, false, if◌then◌else◌, ◌+◌, max, refl, sym, ap, ap₂, ◌∙◌, subst, Option, Result, Ok, Err}
+use Rattle.std.specs.Prelude.{IfOk}
 use Rattle.std.specs.Result.{IsErr, IsErrAnd}
 use Rattle.ratio.specs.declared.reduced.Ratio.{Ratio}
 use Rattle.ufl_tree.specs.declared.tree.Tree.{Tree}
@@ -214,3 +215,9 @@ integral_of t c a s f r h hc ha hs hf =
 pub passed : {A : Type 0} (r : Result A TypeRefusal) (e : TypeRefusal) → IsErr r → IsErrAnd r (λ x. x ≡ e) → r ≡ Err e
 passed (Ok t) e h g = absurd (true≢false (sym h))
 passed (Err x) e h g = ap (λ y. Err y) g
+
+-- ---- what is kept beside a form
+pub told_of : {A : Type 0} (s t : FormTree) (k : FormKind) (p : PatternSet) (n h : ℕ) (f : FormKind → A) → s ≡ t → IsDescribed (form_of s) k p n h
+    → IfOk (form_kind (form_of t)) (λ kind. f kind ≡ f k)
+told_of s t k p n h f view D =
+    subst (λ x. IfOk (form_kind (form_of x)) (λ kind. f kind ≡ f k)) view (subst (λ x. IfOk x (λ kind. f kind ≡ f k)) (sym D.kind) refl)

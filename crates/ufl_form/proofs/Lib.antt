@@ -1,4 +1,6 @@
 pub mod PatternLaws
+pub mod PairLaws
+pub mod TableLaws
 pub mod ArgumentLaws
 pub mod DirectionLaws
 pub mod FormReadings

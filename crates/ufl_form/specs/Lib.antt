@@ -1,5 +1,6 @@
 pub mod Reading
 pub mod Patterns
+pub mod Pairs
 pub mod Arguments
 pub mod Nodes
 pub mod Table

@@ -5,21 +5,23 @@ ghost use Rattle.ufl_expr.specs.Answer.{Gives};
 ghost use Rattle.ufl_expr.specs.Elements.{table_of};
 ghost use Rattle.ufl_form.specs.Reading.{form_of};
 ghost use Rattle.ufl_form.specs.Sizes.{form_nodes, form_height};
-ghost use Rattle.ufl_form.specs.Table.{AreTyped, form_kind, form_patterns, last_of};
+ghost use Rattle.ufl_form.specs.Table.{AreTyped, form_kind, form_patterns, last_of, element_of};
 ghost use Rattle.ufl_form.specs.Building.{IsDescribed, formed, acted, derived};
 
 use crate::form_tree::{FormTree, copy_form};
 use crate::pattern_set::PatternSet;
 use crate::table::{
-    FormKind, action_kind, adjoint_kind, integral_kind, last_of, right_kind, sum_kind, turned_kind,
+    FormKind, action_kind, adjoint_kind, element_of, integral_kind, last_of, right_kind, sum_kind,
+    turned_kind,
 };
 use crate::tree_patterns::tree_patterns;
 use ratio::Ratio;
+use spaces::Cell;
 use sqlite_items::Boxed;
 use std::alloc::{AllocError, Global};
 use std::marker::Model;
 use ufl_expr::{Elements, Expr, TypeRefusal};
-use ufl_tree::Function;
+use ufl_tree::{Function, Role};
 
 /// Most nodes of a form.
 const MOST_NODES: u32 = 10_000;
@@ -111,6 +113,20 @@ impl Form {
         ensures flat { result ≤ 128 }
     {
         self.height
+    }
+
+    /// The cell of the functions.
+    pub fn cell(&self) -> Cell
+        ensures { IfOk (form_kind (form_of self.now)) (λ kind. kind.cell ≡ result) }
+    {
+        self.kind.cell
+    }
+
+    /// The number of the element of an argument, where it occurs.
+    pub fn element(&self, argument: Role) -> Option<u16>
+        ensures { IfOk (form_kind (form_of self.now)) (λ kind. element_of argument kind.arguments ≡ result) }
+    {
+        element_of(argument, self.kind.arguments)
     }
 
     /// An equal form.

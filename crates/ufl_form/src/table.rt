@@ -149,7 +149,7 @@ pub(crate) fn last_of(patterns: PatternSet) -> Result<Role, TypeRefusal>
 }
 
 /// The element of an argument.
-fn element_of(role: Role, arguments: Arguments) -> Option<u16>
+pub(crate) fn element_of(role: Role, arguments: Arguments) -> Option<u16>
     ensures { result ≡ element_of role arguments }
 {
     match role {

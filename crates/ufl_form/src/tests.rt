@@ -1,5 +1,7 @@
 //! Worked cases of the table of forms.
 
+ghost use Rattle.std.specs.Prelude.{◌+◌, ◌<◌, ◌≤◌, length, IfOk};
+
 use crate::{Form, Numbers, PatternSet, patterns};
 use ratio::Ratio;
 use spaces::{Cell, Element, Family};
@@ -84,23 +86,32 @@ enum Step {
     Derivative(Function, Function),
 }
 
-/// The elements of the functions above.
-fn table(alloc: Global) -> Result<Elements, TypeRefusal> {
-    let mut elements = Elements::new(alloc);
-    for (family, cell, degree) in [
-        (Family::Lagrange, Cell::Triangle, 1),
-        (Family::Lagrange, Cell::Triangle, 2),
-        (Family::Lagrange, Cell::Interval, 1),
-        (Family::Real, Cell::Triangle, 0),
-    ] {
-        if let Some(element) = Element::scalar(family, cell, degree) {
+/// The table with one more element.
+#[tactic(auto, using(crate::proofs::TableLaws::one_more_element))]
+fn added(mut elements: Elements, element: Option<Element>) -> Result<Elements, TypeRefusal>
+    requires { length elements < 65536 }
+    ensures { IfOk result (λ table. length table ≤ length elements + 1) }
+{
+    match element {
+        None => Ok(elements),
+        Some(element) => {
             elements.add(element)?;
+            Ok(elements)
         }
     }
-    if let Some(element) = vector_constant(alloc) {
-        elements.add(element)?;
-    }
-    Ok(elements)
+}
+
+/// The elements of the functions above.
+fn table(alloc: Global) -> Result<Elements, TypeRefusal> {
+    let linear = Element::scalar(Family::Lagrange, Cell::Triangle, 1);
+    let quadratic = Element::scalar(Family::Lagrange, Cell::Triangle, 2);
+    let far = Element::scalar(Family::Lagrange, Cell::Interval, 1);
+    let constant = Element::scalar(Family::Real, Cell::Triangle, 0);
+    let elements = added(Elements::new(alloc), linear)?;
+    let elements = added(elements, quadratic)?;
+    let elements = added(elements, far)?;
+    let elements = added(elements, constant)?;
+    added(elements, vector_constant(alloc))
 }
 
 fn vector_constant(alloc: Global) -> Option<Element> {
