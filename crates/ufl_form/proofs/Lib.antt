@@ -5,3 +5,4 @@ pub mod ArgumentLaws
 pub mod DirectionLaws
 pub mod FormReadings
 pub mod FormLaws
+pub mod FitLaws

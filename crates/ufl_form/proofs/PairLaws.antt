@@ -1,5 +1,5 @@
 -- A product has the sums of two pairs, and no more: it is the least set that has them
-use Rattle.std.proofs.Common.{◌≡◌, ℕ, zero, suc, ◌+◌, Bool, true, false, if◌then◌else◌, refl, sym, ap, ◌∙◌, subst, arith}
+use Rattle.std.proofs.Common.{◌≡◌, ℕ, zero, suc, ◌+◌, Bool, true, false, refl, sym, ap, ◌∙◌, subst, arith}
 use Rattle.ufl_form.specs.declared.pattern_set.Numbers.{Numbers}
 use Rattle.ufl_form.specs.declared.pattern_set.PatternSet.{PatternSet}
 use Rattle.ufl_form.specs.Patterns.{or, no_numbers, either, one_more, chosen, sums, united, test_added, trials_added, product}

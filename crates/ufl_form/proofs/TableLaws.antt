@@ -1,5 +1,5 @@
 -- A table of elements grows by at most one element at a time
-use Rattle.std.proofs.Common.{◌≡◌, ℕ, ◌+◌, ◌≤◌, Bool, true, false, if◌then◌else◌, List, [], ◌∷◌, ◌++◌, length, length-append, ap, arith, subst, sym}
+use Rattle.std.proofs.Common.{◌≡◌, ◌+◌, ◌≤◌, Bool, true, false, if◌then◌else◌, List, [], ◌∷◌, ◌++◌, length, length-append, arith, subst, sym}
 use Rattle.spaces.specs.declared.element_tree.ElementTree.{ElementTree}
 use Rattle.spaces.specs.Reading.{space_of}
 use Rattle.ufl_expr.specs.Elements.{table_of, has_space, with_element}

@@ -6,4 +6,5 @@ pub mod Nodes
 pub mod Table
 pub mod Sizes
 pub mod Building
+pub mod Fits
 pub mod Invariant

@@ -7,6 +7,7 @@
 mod arguments;
 mod form;
 mod form_tree;
+mod laws;
 mod pattern_set;
 mod table;
 #[cfg(test)]
@@ -15,4 +16,5 @@ mod tree_patterns;
 
 pub use form::{Form, patterns};
 pub use form_tree::FormTree;
+pub use laws::{fitting_law, product_law};
 pub use pattern_set::{Numbers, PatternSet};
