@@ -6,3 +6,6 @@ pub mod ComponentLaws
 pub mod PlaceLaws
 pub mod NodeLaws
 pub mod ResultLaws
+pub mod SpotLaws
+pub mod OperandLaws
+pub mod ValueLaws

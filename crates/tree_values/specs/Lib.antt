@@ -3,3 +3,4 @@ pub mod PolyValue
 pub mod Scene
 pub mod Component
 pub mod Value
+pub mod Operands

@@ -1,17 +1,20 @@
-//! The parts of a plain, slow program beside the definitions of `ufl_tree`: polynomials with parameters; the functions, the moved variables and the
-//! names that a tree's value depends on; the places of components; the indices that a node sums. Numbers that do not fit are refused.
+//! A plain, slow program beside the definitions of `ufl_tree`: `value` computes the polynomial of a component of a typed tree, word for word as it is
+//! defined, from the functions, the moved variables and the names of a `Scene`. Numbers that do not fit are refused, and so are parts of mixed functions.
 //!
 //! Nothing else uses it.
 #![tactic(auto)]
 
 mod component;
 mod number;
+mod operands;
 mod place;
 mod poly;
 mod scene;
 mod summed;
 mod term;
+mod values;
 
 pub use poly::Poly;
 pub use scene::{Bound, Given, Raised, Scene};
 pub use term::Term;
+pub use values::value;
