@@ -13,6 +13,8 @@ mod scene;
 mod summed;
 mod term;
 mod values;
+#[cfg(test)]
+mod worked;
 
 pub use poly::Poly;
 pub use scene::{Bound, Given, Raised, Scene};
