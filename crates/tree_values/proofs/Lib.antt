@@ -9,3 +9,4 @@ pub mod ResultLaws
 pub mod SpotLaws
 pub mod OperandLaws
 pub mod ValueLaws
+pub mod PieceLaws

@@ -13,7 +13,7 @@ use Rattle.ufl_tree.specs.declared.tree.Node.TheVariants as v
 use Rattle.ufl_tree.specs.Typed.{Typed, number, identity, function, piece, one, two, power as power_of, index, partial, tensor, list, variable, diff}
 use Rattle.ufl_tree.specs.Reading.{typed_of, typed_list, kind_of}
 use Rattle.ufl_tree.specs.Indices.{Names, index_value, index_values, with_names, front, back}
-use Rattle.ufl_tree.specs.Places.{Table, function_place}
+use Rattle.ufl_tree.specs.Places.{Table, function_place, piece_place}
 use Rattle.ufl_tree.specs.Environment.{Environment, raised, parameter_number}
 use Rattle.ufl_tree.specs.Operators.{Components, along, sum_names, identity_value, one_value, two_value, at_place, grad_value, curl_value}
 use Rattle.ufl_tree.specs.Value.{value, item_value, chosen_value}
@@ -23,7 +23,7 @@ use Rattle.tree_values.specs.declared.component.Spot.{Spot}
 use Rattle.tree_values.specs.declared.component.Spot.TheVariants.{Scalar, Vector, Matrix, Longer}
 use Rattle.tree_values.specs.Component.{spot_of}
 use Rattle.tree_values.specs.Scene.{names_of, environment_of, sum_over, assigned, at_rest, component_of}
-use Rattle.tree_values.specs.Value.{table_of, summed_at, value_without_sums, env_of, value_in, unsummed_in, item_in, chosen_in, function_in, bound_in, diff_in, sum_in}
+use Rattle.tree_values.specs.Value.{table_of, summed_at, value_without_sums, env_of, value_in, unsummed_in, item_in, chosen_in, function_in, piece_in, bound_in, diff_in, sum_in}
 use Rattle.tree_values.specs.Operands.{Combines, combination}
 use Rattle.std.proofs.lemmas.List.{take_all}
 use Rattle.tree_values.proofs.NodeLaws as n
@@ -77,6 +77,10 @@ in_identity s t b m h = read s t _ b (n.read-Identity t m h)
 pub in_function : (s : Scene) (t : Tree) (b : List ℕ) (f : Function) → t.node ≡ v.Fun f → function_in s f b ≡ unsummed_in s t b
 unfolding function_in
 in_function s t b f h = read s t _ b (n.read-Fun t f h)
+
+pub in_piece : (s : Scene) (t : Tree) (b : List ℕ) (f : Function) (k : ℕ) → t.node ≡ v.Piece f k → piece_in s f k b ≡ unsummed_in s t b
+unfolding piece_in
+in_piece s t b f k h = read s t _ b (n.read-Piece t f k h)
 
 pub in_one : (s : Scene) (t a : Tree) (b : List ℕ) (op : Op1) → t.node ≡ v.One op a → one_value op a.shape (value_in s a) b ≡ unsummed_in s t b
 unfolding value_in
@@ -159,6 +163,15 @@ function_at s f b m h =
 pub no_function : (s : Scene) (f : Function) (b : List ℕ) → function_place (table_of s.elements.now) f b ≡ None → nil ≡ function_in s f b
 unfolding function_in
 no_function s f b h = sym (ap (λ o. at_place o ((env_of s).value f.role)) h)
+
+pub piece_at : (s : Scene) (f : Function) (k : ℕ) (b : List ℕ) (m : ℕ) → piece_place (table_of s.elements.now) f k b ≡ Some m → component_of s.functions.now f.role m ≡ piece_in s f k b
+unfolding piece_in
+piece_at s f k b m h =
+    sym (ap (λ g. g f.role m) (environment_of-value s.functions.now s.raised.now)) ∙ sym (ap (λ o. at_place o ((env_of s).value f.role)) h)
+
+pub no_piece : (s : Scene) (f : Function) (k : ℕ) (b : List ℕ) → piece_place (table_of s.elements.now) f k b ≡ None → nil ≡ piece_in s f k b
+unfolding piece_in
+no_piece s f k b h = sym (ap (λ o. at_place o ((env_of s).value f.role)) h)
 
 pub bound_at : (s here : Scene) (t : Tree) (by b : List ℕ) (names : List Bound) → here.elements.now ≡ s.elements.now → env_of here ≡ env_of s → here.names.now ≡ names
     → names_of names ≡ with_names by b (names_of s.names.now) → value_in here t [] ≡ bound_in s t by b

@@ -8,7 +8,7 @@ use Rattle.ufl_tree.specs.declared.tree.Tree.{Tree}
 use Rattle.ufl_tree.specs.Typed.{Typed, number, identity, function, piece, one, two, power, index, partial, tensor, list, variable, diff, own_kind, shape_of, free_of}
 use Rattle.ufl_tree.specs.Reading.{typed_of}
 use Rattle.ufl_tree.specs.Indices.{Names, index_value, index_values, named, direction, repeated, with_names, front, back}
-use Rattle.ufl_tree.specs.Places.{Table, function_place}
+use Rattle.ufl_tree.specs.Places.{Table, function_place, piece_place}
 use Rattle.ufl_tree.specs.Environment.{Environment, raised, parameter_number}
 use Rattle.ufl_tree.specs.Operators.{Components, along, two_value, one_in, turned_over, matrix_value, sum_below, summed, trace_value, unit_or_nil, at_place}
 use Rattle.ufl_tree.specs.Value.{value}
@@ -82,6 +82,10 @@ dev_of n f = matrix_value (λ i j. minus (f (i ∷ j ∷ [])) (times (times (tra
 -- the component of a function
 unfoldable pub function_in : Scene → Function → Components
 function_in s f b = at_place (function_place (table_of s.elements.now) f b) ((env_of s).value f.role)
+
+-- the component of a sub-element of a function
+unfoldable pub piece_in : Scene → Function → ℕ → Components
+piece_in s f k b = at_place (piece_place (table_of s.elements.now) f k b) ((env_of s).value f.role)
 
 -- a scalar tree where the names have the numbers of a component
 unfoldable pub bound_in : Scene → Tree → List ℕ → Components

@@ -1,5 +1,5 @@
 //! A plain, slow program beside the definitions of `ufl_tree`: `value` computes the polynomial of a component of a typed tree, word for word as it is
-//! defined, from the functions, the moved variables and the names of a `Scene`. Numbers that do not fit are refused, and so are parts of mixed functions.
+//! defined, from the functions, the moved variables and the names of a `Scene`. Numbers that do not fit are refused.
 //!
 //! Nothing else uses it.
 #![tactic(auto)]
@@ -7,6 +7,7 @@
 mod component;
 mod number;
 mod operands;
+mod piece;
 mod place;
 mod poly;
 mod scene;

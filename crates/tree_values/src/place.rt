@@ -11,7 +11,7 @@ use spaces::{Element, ElementTree};
 use ufl_tree::Function;
 
 #[tactic(auto, using(crate::proofs::PlaceLaws::places))]
-fn in_scalar(at: &[u8]) -> Option<usize>
+pub fn in_scalar(at: &[u8]) -> Option<usize>
     ensures { result ≡ place [] at.now }
 {
     match measured(at) {
@@ -23,7 +23,7 @@ fn in_scalar(at: &[u8]) -> Option<usize>
 }
 
 #[tactic(auto, using(crate::proofs::PlaceLaws::places))]
-fn in_vector(size: u8, at: &[u8]) -> Option<usize>
+pub fn in_vector(size: u8, at: &[u8]) -> Option<usize>
     ensures { result ≡ place (size ∷ []) at.now }
 {
     match measured(at) {
@@ -35,7 +35,7 @@ fn in_vector(size: u8, at: &[u8]) -> Option<usize>
 }
 
 #[tactic(auto, using(crate::proofs::PlaceLaws::places))]
-fn in_matrix(rows: u8, cols: u8, at: &[u8]) -> Option<usize>
+pub fn in_matrix(rows: u8, cols: u8, at: &[u8]) -> Option<usize>
     ensures { result ≡ place (rows ∷ cols ∷ []) at.now }
 {
     match measured(at) {

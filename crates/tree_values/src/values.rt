@@ -4,13 +4,14 @@ ghost use Rattle.std.specs.Prelude.{◌≡◌, ℕ, IfOk, [], ◌∷◌, map};
 ghost use Rattle.ufl_tree.specs.Operators.{along, identity_value, unit_or_nil, one_value, grad_value, nabla_grad_value, sum_below, curl_value, matrix_value, turned_over, trace_value};
 ghost use Rattle.ufl_tree.specs.Indices.{followed_by};
 ghost use Rattle.tree_values.specs.PolyValue.{value_of};
-ghost use Rattle.tree_values.specs.Value.{value_in, unsummed_in, chosen_in, function_in, bound_in, diff_in, half_of, dev_of};
+ghost use Rattle.tree_values.specs.Value.{value_in, unsummed_in, chosen_in, function_in, piece_in, bound_in, diff_in, half_of, dev_of};
 
 use crate::component::{
     Spot, before, behind, first_part, last_part, measured, of_matrix, of_vector,
 };
 use crate::number::one_in;
 use crate::operands::{combined, first_size, last_size, other_axes, wanted};
+use crate::piece::piece_place;
 use crate::place::function_place;
 use crate::poly::Poly;
 use crate::scene::{
@@ -54,8 +55,17 @@ fn function(alloc: Global, scene: &Scene, f: Function, at: &[u8]) -> Result<Poly
     }
 }
 
-/// The component of a tree at the numbers `at`. `Range` where a number doesn't fit or more than three derivatives by variables are nested;
-/// `Shape` for a part of a mixed function.
+fn piece(alloc: Global, scene: &Scene, f: Function, which: u8, at: &[u8]) -> Result<Poly, Fault>
+    ensures { IfOk result (λ p. value_of p ≡ piece_in scene.now f which at.now) }
+{
+    match piece_place(scene.elements, f, which, at)? {
+        Some(n) => component(alloc, scene.functions, f.role, n),
+        None => Ok(Poly::zero(alloc)),
+    }
+}
+
+/// The component of a tree at the numbers `at`. `Range` where a number doesn't fit, a mixed element in a list has more than 255 scalar parts, or more
+/// than three derivatives by variables are nested.
 #[cycle(values)]
 pub fn value(alloc: Global, scene: &Scene, tree: &Tree, at: &[u8]) -> Result<Poly, Fault>
     ensures { IfOk result (λ p. value_of p ≡ value_in scene.now tree.now at.now) }
@@ -85,7 +95,7 @@ fn unsummed(alloc: Global, scene: &Scene, tree: &Tree, at: &[u8]) -> Result<Poly
         Node::Number(c) => Poly::constant(alloc, *c),
         Node::Identity(_) => identity(alloc, at),
         Node::Fun(f) => function(alloc, scene, *f, at),
-        Node::Piece { .. } => Err(Fault::Shape),
+        Node::Piece { f, which } => piece(alloc, scene, *f, *which, at),
         Node::One(op, a) => one(alloc, scene, a.get(), *op, at),
         Node::Two(op, a, b) => {
             let (a, b) = (a.get(), b.get());

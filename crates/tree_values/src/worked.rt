@@ -90,7 +90,7 @@ fn product(alloc: Global, a: Tree, b: Tree) -> Result<Tree, Fault> {
     scalar(alloc, Node::Two(Op2::Product, a, b))
 }
 
-// The coordinate function is the only function: coefficient 0, of element 0.
+// The coordinates are a function: coefficient 0, of element 0.
 fn coordinate(alloc: Global, direction: u8) -> Result<Tree, Fault> {
     let f = Function {
         role: Role::Coefficient(0),
@@ -195,17 +195,37 @@ fn coordinates(alloc: Global) -> Result<Items<Poly>, Fault> {
     Ok(all)
 }
 
-fn evaluated(alloc: Global, t: &Tree, at: At) -> Result<Ratio, Fault> {
+// A vector of three, and a list of that vector and a scalar.
+fn elements(alloc: Global) -> Result<Items<Element>, Fault> {
     let part = Element::scalar(Family::Lagrange, Cell::Tetrahedron, 1).ok_or(Fault::Shape)?;
-    let Ok(element) = Element::vector(alloc, part, 3) else {
+    let Ok(first) = Element::vector(alloc, part.copy(alloc)?, 3) else {
         return Err(Fault::Shape);
     };
-    let mut elements = Items::new(alloc);
-    elements.push(element)?;
+    let mut parts = Vec::new(alloc);
+    parts.push(first.copy(alloc)?)?;
+    parts.push(part)?;
+    let Ok(list) = Element::mixed(alloc, parts) else {
+        return Err(Fault::Shape);
+    };
+    let mut all = Items::new(alloc);
+    all.push(first)?;
+    all.push(list)?;
+    Ok(all)
+}
+
+fn evaluated(alloc: Global, t: &Tree, at: At) -> Result<Ratio, Fault> {
+    let elements = elements(alloc)?;
     let mut functions = Items::new(alloc);
     functions.push(Given {
         role: Role::Coefficient(0),
         components: coordinates(alloc)?,
+    })?;
+    let mut components = coordinates(alloc)?;
+    let seven = Ratio::new(7, 1).ok_or(Fault::Range)?;
+    components.push(Poly::constant(alloc, seven)?)?;
+    functions.push(Given {
+        role: Role::Coefficient(1),
+        components,
     })?;
     let scene = Scene {
         elements: elements.as_slice(),
@@ -447,6 +467,9 @@ enum Other {
     RepeatedInPartial,
     /// f.dx(1)
     Partial,
+    /// The sub-elements 0 and 1 of the function (x, y, z, 7) of a vector and a scalar
+    First,
+    Second,
     /// as_tensor(a[i, j], (j, i))
     Exchanged,
     Identity,
@@ -480,6 +503,14 @@ fn indexed(alloc: Global, which: Operand, at: &[Ix]) -> Result<Tree, Fault> {
 fn entry_of(alloc: Global, which: Operand, index: u16) -> Result<Tree, Fault> {
     let t = indexed(alloc, which, &[Ix::Named(index)])?;
     with_free(alloc, t, index)
+}
+
+fn piece(alloc: Global, which: u8, shape: &[u8]) -> Result<Tree, Fault> {
+    let f = Function {
+        role: Role::Coefficient(1),
+        element: 1,
+    };
+    tree(alloc, Node::Piece { f, which }, shape, Cell::Triangle)
 }
 
 fn along(alloc: Global, t: Tree, i: Ix) -> Result<Tree, Fault> {
@@ -551,6 +582,8 @@ fn built(alloc: Global, which: Other) -> Result<Tree, Fault> {
             let u = entry_of(alloc, Operand::PlaneU, 7)?;
             along(alloc, u, Ix::Named(7))
         }
+        Other::First => piece(alloc, 0, &[3]),
+        Other::Second => piece(alloc, 1, &[]),
         Other::Partial => along(alloc, f(alloc)?, Ix::Fixed(1)),
         Other::Exchanged => exchanged(alloc),
         Other::Identity => tree(alloc, Node::Identity(2), &[2, 2], Cell::Triangle),
@@ -575,7 +608,7 @@ fn built(alloc: Global, which: Other) -> Result<Tree, Fault> {
 }
 
 /// A tree, a component, and the value there.
-const OTHER: [(Other, At, i128); 19] = [
+const OTHER: [(Other, At, i128); 21] = [
     (Other::Cube, At::None, 46656),
     (Other::Entry, At::None, 27),
     // as the dot product, the trace and the divergence
@@ -583,6 +616,8 @@ const OTHER: [(Other, At, i128); 19] = [
     (Other::RepeatedInIndex, At::None, 22),
     (Other::RepeatedInPartial, At::None, 9),
     (Other::Partial, At::None, 12),
+    (Other::First, At::One(2), 5),
+    (Other::Second, At::None, 7),
     (Other::Exchanged, At::Two(0, 1), 27),
     (Other::Exchanged, At::Two(1, 0), 6),
     (Other::Identity, At::Two(0, 0), 1),

@@ -33,6 +33,9 @@ unsummed-returns-in-Identity t c = ok_as value_of c.identity.result _ _ (l.in_id
 pub unsummed-returns-in-Fun : goal.unsummed-returns-in-Fun
 unsummed-returns-in-Fun t c = ok_as value_of c.function.result _ _ (l.in_function c.args.scene.now c.args.tree.now c.args.at.now _ c.in-Fun.is) c.function.ensures
 
+pub unsummed-returns-in-Piece : goal.unsummed-returns-in-Piece
+unsummed-returns-in-Piece t c = ok_as value_of c.piece.result _ _ (l.in_piece c.args.scene.now c.args.tree.now c.args.at.now c.in-Piece.f c.in-Piece.which c.in-Piece.is) c.piece.ensures
+
 pub unsummed-returns-in-One : goal.unsummed-returns-in-One
 unsummed-returns-in-One t c =
     ok_as value_of c.one.result _ _
