@@ -1,7 +1,7 @@
 -- What an operator combines, component by component
 use Rattle.std.proofs.Common.{◌≡◌, ℕ, zero, suc, refl, sym, ◌∙◌, ap, ap₂, List, [], ◌∷◌, ◌++◌, length, map, ◌<◌, arith, Option, Some}
 use Rattle.algebra.specs.RingLaws as L
-use Rattle.calculus.specs.Polynomial.{Polynomial, polynomials, nil, plus, minus, times, plus_assoc, plus-nil}
+use Rattle.calculus.specs.Polynomial.{Polynomial, polynomials, plus, minus, times, plus_assoc, plus-nil}
 use Rattle.ufl_tree.specs.declared.tree.Op2.{Op2}
 use Rattle.ufl_tree.specs.declared.tree.Op2.TheVariants.{Product, Inner}
 use Rattle.ufl_tree.specs.Indices.{front, back, followed_by, last_size}

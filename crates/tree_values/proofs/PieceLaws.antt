@@ -1,18 +1,15 @@
 -- The parts of mixed elements, counted and placed
-use Rattle.std.proofs.Common.{◌≡◌, ℕ, zero, suc, ◌+◌, ◌*◌, ◌<◌, refl, sym, ◌∙◌, ap, ap₂, List, [], ◌∷◌, ◌++◌, length, take, get_or, arith, length-append, Option, None, Some, slice_get, map, Bor}
-use Rattle.std.specs.Slice.{IsItemAt}
+use Rattle.std.proofs.Common.{◌≡◌, ℕ, suc, ◌+◌, ◌*◌, ◌<◌, sym, ◌∙◌, ap, ap₂, List, [], ◌∷◌, ◌++◌, length, take, get_or, arith, length-append, None}
 use Rattle.spaces.specs.declared.cell.Cell.{Cell}
 use Rattle.spaces.specs.declared.family.Family.{Family}
 use Rattle.spaces.specs.declared.element_tree.ElementTree.{ElementTree}
 use Rattle.spaces.specs.declared.element_tree.ElementTree.TheVariants as v
-use Rattle.spaces.specs.Space.{Space, mixed, scalars, scalars_of}
+use Rattle.spaces.specs.Space.{Space, scalars, scalars_of}
 use Rattle.spaces.specs.Reading.{space_of, spaces_in}
 use Rattle.spaces.proofs.ReadingLaws.{space_of-Scalar, space_of-Vector, space_of-Tensor, space_of-Mixed}
 use Rattle.spaces.proofs.SpaceLaws.{length-repeated}
-use Rattle.ufl_tree.specs.declared.function.Function.{Function}
 use Rattle.ufl_tree.specs.Indices.{place}
-use Rattle.ufl_tree.specs.Places.{element_shape, piece_from, piece_of, place_after, place_in_piece, piece_place}
-use Rattle.tree_values.specs.Value.{table_of}
+use Rattle.ufl_tree.specs.Places.{element_shape, piece_from, piece_of, place_after, place_in_piece}
 use Rattle.tree_values.proofs.SceneLaws.{next}
 
 abbrev size_of : ElementTree → ℕ

@@ -1,5 +1,5 @@
 -- The value of a tree, by its node
-use Rattle.std.proofs.Common.{◌≡◌, ℕ, zero, suc, refl, sym, ◌∙◌, ap, ap₂, List, [], ◌∷◌, ◌++◌, map, take, length, get_or, ◌+◌, ◌<◌, ◌≤◌, Option, None, Some, slice_get, Bool, true, false, true≢false, arith, Bor}
+use Rattle.std.proofs.Common.{◌≡◌, ℕ, zero, suc, refl, sym, ◌∙◌, ap, ap₂, List, [], ◌∷◌, ◌++◌, map, take, length, get_or, ◌+◌, ◌<◌, ◌≤◌, None, Some, Bool, true, false, true≢false, arith, Bor}
 use Rattle.std.specs.Slice.{IsItemAt}
 use Rattle.ratio.specs.Value.{fraction_of}
 use Rattle.ratio.specs.declared.reduced.Ratio.{Ratio}
@@ -11,7 +11,7 @@ use Rattle.ufl_tree.specs.declared.tree.Op2.{Op2}
 use Rattle.ufl_tree.specs.declared.tree.Tree.{Tree}
 use Rattle.ufl_tree.specs.declared.tree.Node.TheVariants as v
 use Rattle.ufl_tree.specs.Typed.{Typed, number, identity, function, piece, one, two, power as power_of, index, partial, tensor, list, variable, diff}
-use Rattle.ufl_tree.specs.Reading.{typed_of, typed_list, kind_of}
+use Rattle.ufl_tree.specs.Reading.{typed_of, typed_list}
 use Rattle.ufl_tree.specs.Indices.{Names, index_value, index_values, with_names, front, back}
 use Rattle.ufl_tree.specs.Places.{Table, function_place, piece_place}
 use Rattle.ufl_tree.specs.Environment.{Environment, raised, parameter_number}
@@ -22,7 +22,7 @@ use Rattle.tree_values.specs.declared.scene.Scene.{Scene}
 use Rattle.tree_values.specs.declared.component.Spot.{Spot}
 use Rattle.tree_values.specs.declared.component.Spot.TheVariants.{Scalar, Vector, Matrix, Longer}
 use Rattle.tree_values.specs.Component.{spot_of}
-use Rattle.tree_values.specs.Scene.{names_of, environment_of, sum_over, assigned, at_rest, component_of}
+use Rattle.tree_values.specs.Scene.{names_of, environment_of, sum_over, assigned, component_of}
 use Rattle.tree_values.specs.Value.{table_of, summed_at, value_without_sums, env_of, value_in, unsummed_in, item_in, chosen_in, function_in, piece_in, bound_in, diff_in, sum_in}
 use Rattle.tree_values.specs.Operands.{Combines, combination}
 use Rattle.std.proofs.lemmas.List.{take_all}

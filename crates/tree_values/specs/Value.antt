@@ -1,5 +1,5 @@
 -- What the program computes, read from its arguments
-use Rattle.std.specs.Prelude.{ℕ, zero, suc, Bool, true, false, List, [], ◌∷◌, ◌++◌, map, if◌then◌else◌, Option, None, Some}
+use Rattle.std.specs.Prelude.{ℕ, zero, suc, Bool, List, [], ◌∷◌, ◌++◌, map, if◌then◌else◌}
 use Rattle.calculus.specs.Polynomial.{Polynomial, nil, plus, times, minus, coefficient_of}
 use Rattle.spaces.specs.Reading.{space_of}
 use Rattle.spaces.specs.declared.element_tree.ElementTree.{ElementTree}
@@ -10,7 +10,7 @@ use Rattle.ufl_tree.specs.Reading.{typed_of}
 use Rattle.ufl_tree.specs.Indices.{Names, index_value, index_values, named, direction, repeated, with_names, front, back}
 use Rattle.ufl_tree.specs.Places.{Table, function_place, piece_place}
 use Rattle.ufl_tree.specs.Environment.{Environment, raised, parameter_number}
-use Rattle.ufl_tree.specs.Operators.{Components, along, two_value, one_in, turned_over, matrix_value, sum_below, summed, trace_value, unit_or_nil, at_place}
+use Rattle.ufl_tree.specs.Operators.{Components, along, two_value, one_in, turned_over, matrix_value, summed, trace_value, unit_or_nil, at_place}
 use Rattle.ufl_tree.specs.Value.{value}
 use Rattle.tree_values.specs.Scene.{names_of, environment_of, sum_over}
 use Rattle.tree_values.specs.declared.scene.Bound.{Bound}

@@ -1,7 +1,6 @@
-use Rattle.std.proofs.Common.{arith}
 use Rattle.tree_values.proofs.ResultLaws.{ok_then}
 use Rattle.tree_values.proofs.OperandLaws.{dot_first, combines_dot}
-use Rattle.std.proofs.Common.{◌∙◌, ap, ap₂, [], ◌∷◌}
+use Rattle.std.proofs.Common.{◌∙◌, ap, [], ◌∷◌}
 use Rattle.ufl_tree.specs.Indices.{followed_by}
 use Rattle.tree_values.specs.Scene.{gathered}
 use Rattle.tree_values.proofs.operands.of_dot.Goals as goal

@@ -1,6 +1,5 @@
 use Rattle.std.proofs.Common.{◌∙◌, ap, [], ◌∷◌}
 use Rattle.ufl_tree.specs.declared.tree.Op2.TheVariants.{Sum, Inner, Outer}
-use Rattle.calculus.specs.Polynomial.{times}
 use Rattle.tree_values.proofs.ResultLaws.{ok_then}
 use Rattle.tree_values.proofs.OperandLaws.{combines_as, combines_pair, combines_inner, sum_one, products_one}
 use Rattle.tree_values.proofs.operands.wanted.Goals as goal

@@ -1,7 +1,7 @@
 use Rattle.std.proofs.Common.{◌∙◌, refl, sym, ap, ap₂, [], ◌++◌, map, arith}
-use Rattle.calculus.specs.Polynomial.{plus, power, constant}
+use Rattle.calculus.specs.Polynomial.{plus, power}
 use Rattle.ufl_tree.specs.Operators.{along, one_value, curl_value}
-use Rattle.ufl_tree.specs.Indices.{front, back, index_value, index_values}
+use Rattle.ufl_tree.specs.Indices.{front, back, index_values}
 use Rattle.tree_values.specs.PolyValue.{value_of}
 use Rattle.tree_values.specs.Scene.{names_of, assigned}
 use Rattle.tree_values.specs.Value.{value_in, chosen_in, bound_in, diff_in}

@@ -1,4 +1,4 @@
-use Rattle.std.proofs.Common.{◌≡◌, take, map, [], ◌∷◌}
+use Rattle.std.proofs.Common.{◌≡◌, take, map, ◌∷◌}
 use Rattle.ufl_tree.specs.Indices.{followed_by}
 use Rattle.ufl_tree.specs.Operators.{along, sum_below, trace_value}
 use Rattle.tree_values.specs.PolyValue.{value_of}
