@@ -4,3 +4,5 @@ pub mod Ahead
 pub mod Form
 pub mod FormNext
 pub mod FormEnd
+pub mod FormLengths
+pub mod FormScan

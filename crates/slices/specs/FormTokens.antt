@@ -1,5 +1,5 @@
 -- The tokens of a form file
-use Rattle.std.specs.Prelude.{◌≡◌, ℕ, zero, suc, ◌+◌, ◌*◌, ◌-◌, Bool, true, false, not, length, ◌||◌, ◌==◌, nat_lt, if◌then◌else◌, List, [], ◌∷◌, take, drop, Option, Some, None, Result, Ok, Err}
+use Rattle.std.specs.Prelude.{◌≡◌, ◌≤◌, ℕ, zero, suc, ◌+◌, ◌*◌, ◌-◌, Bool, true, false, not, length, ◌||◌, ◌==◌, nat_lt, if◌then◌else◌, List, [], ◌∷◌, take, drop, Option, Some, None, Result, Ok, Err}
 use Rattle.slices.specs.FormGap.{Spot, spot, blanks, after_gap}
 use Rattle.slices.specs.FormTable.{form_token}
 use Rattle.slices.specs.Tokens.{Token, token_of}
@@ -70,3 +70,11 @@ pub data Scan : FormReader → List Tok → Option LexAt → Type 0 where
   no_more : {r : FormReader} → form_next r ≡ finished → Scan r [] None
   lost : {r : FormReader} {e : LexAt} → form_next r ≡ no_token e.from e.line → Scan r [] (Some e)
   one_more : {r : FormReader} {t : Tok} {q : FormReader} {ts : List Tok} {e : Option LexAt} → form_next r ≡ token (token_of t) q → Scan q ts e → Scan r (t ∷ ts) e
+
+-- so many bytes are what stands at a place of a text
+abbrev pub IsCutAt : List ℕ → ℕ → List ℕ → Type 0
+IsCutAt source from bytes = (from + length bytes ≤ length source) × (bytes ≡ take (length bytes) (drop from source))
+
+-- the text of a token is what stands at its place
+abbrev pub IsCut : List ℕ → Tok → Type 0
+IsCut source t = IsCutAt source t.from t.text.now

@@ -8,6 +8,7 @@
 mod c_table;
 mod form_table;
 mod form_toks;
+pub mod laws;
 mod toks;
 
 pub use form_toks::FormToks;

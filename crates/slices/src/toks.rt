@@ -24,13 +24,14 @@ pub enum Table {
     C,
 }
 
-/// A token: its text is the slice of the source at `from`. Lines count from 1.
+/// A token: its text is the slice of the source at `from`, and ends below 2^32. Lines count from 1.
 #[derive(Clone, Copy, Debug)]
 pub struct Tok<'a> {
     pub text: &'a [u8],
     pub from: u32,
     pub line: u32,
     pub kind: TokKind,
+    pub ghost ends: { from + length text.now < 2 ^ 32 },
 }
 
 /// A place where no token starts.

@@ -1,5 +1,5 @@
 -- Tokens are a list of statements, or have one refusal.
-use Rattle.std.proofs.Common.{[], ◌∷◌, ◌++◌, ◌≡◌, ◌+◌, ◌-◌, take, drop, length, List, ℕ, refl, sym, ap, subst, ◌∙◌, append_assoc, append-nil, arith, length-drop}
+use Rattle.std.proofs.Common.{[], ◌∷◌, ◌++◌, ◌≡◌, ◌+◌, ◌-◌, ◌≤◌, ◌⊎◌, inl, inr, take, drop, length, List, ℕ, zero, suc, refl, sym, ap, subst, ◌∙◌, append_assoc, append-nil, arith, length-drop}
 use Rattle.std.proofs.lemmas.List.{take-append-drop, length-append}
 use Rattle.ufl_syntax.specs.declared.class.Lexeme.{Lexeme}
 use Rattle.ufl_syntax.specs.declared.tree.Stmt.{Stmt}
@@ -8,7 +8,9 @@ use Rattle.ufl_syntax.specs.Refusal.{Begins, IsRefused, IsWrong, IsTooDeep}
 use Rattle.ufl_syntax.proofs.Only.{none_begins, one_refused, not_both}
 use Rattle.ufl_read.specs.declared.tokens.Fault.{Fault}
 use Rattle.ufl_read.specs.declared.tokens.Fault.TheVariants as f
-use Rattle.ufl_read.specs.Reads.{IsRefusal}
+use Rattle.ufl_syntax.specs.Refusal.{AreStatements, EndsEarly, Stops}
+use Rattle.ufl_syntax.proofs.Whole.{one_of_three}
+use Rattle.ufl_read.specs.Reads.{IsFault}
 
 split_at : (all : List Lexeme) (at : ℕ) (bad : Lexeme) (after : List Lexeme) → drop at all ≡ bad ∷ after → all ≡ take at all ++ bad ∷ after
 split_at all at bad after d = sym (take-append-drop at all) ∙ ap (λ l. take at all ++ l) d
@@ -35,13 +37,6 @@ never_begun n all at bad after d r b =
 deep_or_wrong : (n : ℕ) (all : List Lexeme) (a b : ℕ) (x y : Lexeme) → (take a all ≡ take b all) × (x ≡ y) → IsWrong n (take a all) x → IsTooDeep n (take b all) y → ⊥
 deep_or_wrong n all a b x y h w d = not_both n (take a all) x w (subst (λ z. IsTooDeep n (take a all) z) (sym h.1) (subst (λ l. IsTooDeep n l y) (sym h.0) d))
 
--- a refusal of the tokens, and no want of memory
-abbrev pub IsFault : ℕ → List Lexeme → Fault → Type 0
-IsFault n all f.Memory = ⊥
-IsFault n all f.Short = IsRefusal n all f.Short
-IsFault n all (f.Wrong at) = IsRefusal n all (f.Wrong at)
-IsFault n all (f.Deep at) = IsRefusal n all (f.Deep at)
-
 pub one_fault : (n : ℕ) (all : List Lexeme) (e d : Fault) → IsFault n all e → IsFault n all d → e ≡ d
 one_fault n all f.Memory d r q = absurd r
 one_fault n all f.Short f.Memory r q = absurd q
@@ -63,3 +58,32 @@ no_fault n all sts f.Memory d r = r
 no_fault n all sts f.Short d r = r.1 sts d
 no_fault n all sts (f.Wrong a) d (x, s, e, r) = never_begun n all a x s e r.0 ([], sts, subst (λ l. File n l sts []) (sym (append-nil all)) d)
 no_fault n all sts (f.Deep a) d (x, s, e, r) = never_begun n all a x s e r.0 ([], sts, subst (λ l. File n l sts []) (sym (append-nil all)) d)
+
+take_front : (front rest : List Lexeme) → take (length front) (front ++ rest) ≡ front
+take_front [] [] = refl
+take_front [] (t ∷ ts) = refl
+take_front (t ∷ front) rest = ap (λ l. t ∷ l) (take_front front rest)
+
+drop_front : (front rest : List Lexeme) → drop (length front) (front ++ rest) ≡ rest
+drop_front [] [] = refl
+drop_front [] (t ∷ ts) = refl
+drop_front (t ∷ front) rest = drop_front front rest
+
+some_stop : (n : ℕ) (all : List Lexeme) → Stops n all → (e : Fault) × IsFault n all e
+some_stop n all (front, bad, (after, e, r, inl w)) =
+    let d : drop (length front) all ≡ bad ∷ after = ap (drop (length front)) e ∙ drop_front front (bad ∷ after) in
+    let t : take (length front) all ≡ front = ap (take (length front)) e ∙ take_front front (bad ∷ after) in
+    (f.Wrong (length front), (bad, after, d, (subst (λ l. IsRefused n l bad) (sym t) r, subst (λ l. IsWrong n l bad) (sym t) w)))
+some_stop n all (front, bad, (after, e, r, inr w)) =
+    let d : drop (length front) all ≡ bad ∷ after = ap (drop (length front)) e ∙ drop_front front (bad ∷ after) in
+    let t : take (length front) all ≡ front = ap (take (length front)) e ∙ take_front front (bad ∷ after) in
+    (f.Deep (length front), (bad, after, d, (subst (λ l. IsRefused n l bad) (sym t) r, subst (λ l. IsTooDeep n l bad) (sym t) w)))
+
+some_by : (n : ℕ) (all : List Lexeme) → AreStatements n all ⊎ EndsEarly n all ⊎ Stops n all → AreStatements n all ⊎ ((e : Fault) × IsFault n all e)
+some_by n all (inl s) = inl s
+some_by n all (inr (inl s)) = inr (f.Short, s)
+some_by n all (inr (inr s)) = inr (some_stop n all s)
+
+-- tokens are a list of statements, or have a refusal
+pub statements_or_fault : (n : ℕ) (all : List Lexeme) → 2 ≤ n → AreStatements n all ⊎ ((e : Fault) × IsFault n all e)
+statements_or_fault n all l = some_by n all (one_of_three n all l)

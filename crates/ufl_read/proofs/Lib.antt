@@ -2,3 +2,4 @@ pub mod Turns
 pub mod Lines
 pub mod Whole
 pub mod Exact
+pub mod Outcome

@@ -8,8 +8,8 @@ use Rattle.ufl_syntax.specs.declared.tree.AssignOp.{AssignOp}
 use Rattle.ufl_syntax.specs.declared.tree.AssignOp.TheVariants as o
 use Rattle.ufl_syntax.specs.declared.tree.Stmt.{Stmt}
 use Rattle.ufl_syntax.specs.declared.tree.Syn.{Syn}
-use Rattle.ufl_syntax.specs.Grammar.{assignment, import_all, first_line, LaterNames, no_name, last_name, further_name, Names, one_name, several_names, Targets, bare_targets, bracketed_targets, Statement, imports, assigns, updated, updates, File, no_statement, one_statement}
-use Rattle.ufl_syntax.specs.Machine.{takes, skips, wrong, part_on, first_on, statement_on, run, stopped, sank, same, begins_statement, statements, a_statement, after_first, later_names, a_value, token}
+use Rattle.ufl_syntax.specs.Grammar.{HasParts, first_line, LaterNames, no_name, last_name, further_name, Names, one_name, several_names, Targets, bare_targets, bracketed_targets, Statement, imports, assigns, updated, updates, File, no_statement, one_statement}
+use Rattle.ufl_syntax.specs.Machine.{Part, takes, skips, wrong, part_on, first_on, statement_on, run, stopped, sank, same, begins_statement, statements, a_statement, after_first, later_names, a_value, token}
 use Rattle.std.proofs.lemmas.List.{take-append-drop, append_cancel_right}
 use Rattle.ufl_syntax.specs.Refusal.{IsRefused, IsWrong, IsTooDeep}
 use Rattle.ufl_syntax.proofs.Steps.{run_skips, run_wrong}
@@ -17,7 +17,7 @@ use Rattle.ufl_syntax.proofs.Complete.{run_none, statements_begin, statements_sk
 use Rattle.ufl_syntax.proofs.Refusal.{ended_begins, is_refused, is_sunk, stops_at, sinks_at}
 use Rattle.ufl_read.specs.declared.tokens.Fault.{Fault}
 use Rattle.ufl_read.specs.declared.tokens.Fault.TheVariants as f
-use Rattle.ufl_read.specs.Reads.{Fails, Reads, ReadsAll, bracket_parts, IsRefusal, IsWord, IsSign, IsEnded, IsAssigned, IsImport}
+use Rattle.ufl_read.specs.Reads.{Fails, Reads, ReadsAll, ended_parts, assigned_parts, bracket_parts, IsRefusal, IsWord, IsSign, IsEnded, IsAssigned, IsImport}
 use Rattle.ufl_read.proofs.Turns.{take_at, along}
 
 -- names behind those before
@@ -60,30 +60,27 @@ some_is : (a b : AssignOp) → Some a ≡ Some b → a ≡ b
 some_is a b h = cc
 
 -- one target, a sign, a value
-signed_by : (n : ℕ) (t u : Lexeme) (b : Bool) (us rest : List Lexeme) (op : AssignOp) (e : Syn) (j : Class) → u.class ≡ j → t.class ≡ k.Name b → IsSign j (Some op) → IsEnded n us e rest
-    → Statement n (t ∷ u ∷ us) (assignment t.tok.line (t.tok ∷ []) false op e) rest
-signed_by n t u b us rest op e k.Assign y h x v =
-    subst (λ o. Statement n (t ∷ u ∷ us) (assignment t.tok.line (t.tok ∷ []) false o e) rest) (sym (some_is op o.Set x)) (assigns (bare_targets (one_name h)) y v.1 v.2)
-signed_by n t u b us rest op e k.AddAssign y h x v = updated h (subst (λ j. updates j op) (sym y) (some_is op o.Plus x)) v.1 v.2
-signed_by n t u b us rest op e k.SubAssign y h x v = updated h (subst (λ j. updates j op) (sym y) (some_is op o.Minus x)) v.1 v.2
-signed_by n t u b us rest op e _ y h x v = cc
+signed_by : (n : ℕ) (t u : Lexeme) (b : Bool) (us rest : List Lexeme) (op : AssignOp) (e : Syn) (st : Stmt) (j : Class) → u.class ≡ j → t.class ≡ k.Name b → IsSign j (Some op) → IsEnded n us e rest
+    → HasParts st t.tok.line (t.tok ∷ []) false op (Some e) → Statement n (t ∷ u ∷ us) st rest
+signed_by n t u b us rest op e st k.Assign y h x v p = assigns (bare_targets (one_name h)) y v.1 v.2 (p.0, p.1, p.2, p.3 ∙ some_is op o.Set x, p.4)
+signed_by n t u b us rest op e st k.AddAssign y h x v p = updated h (subst (λ j. updates j op) (sym y) (some_is op o.Plus x)) v.1 v.2 p
+signed_by n t u b us rest op e st k.SubAssign y h x v p = updated h (subst (λ j. updates j op) (sym y) (some_is op o.Minus x)) v.1 v.2 p
+signed_by n t u b us rest op e st _ y h x v p = cc
 
-pub signed_statement : (n : ℕ) (t u : Lexeme) (ts us rest : List Lexeme) (op : AssignOp) (e : Syn) (names : List Tok) → IsWord t → ts ≡ u ∷ us → IsSign u.class (Some op) → names ≡ t.tok ∷ [] → IsEnded n us e rest
-    → Statement n (t ∷ ts) (assignment t.tok.line names false op e) rest
-signed_statement n t u ts us rest op e names w x i h v =
-    subst (λ l. Statement n (t ∷ l) (assignment t.tok.line names false op e) rest) (sym x)
-    (subst (λ l. Statement n (t ∷ u ∷ us) (assignment t.tok.line l false op e) rest) (sym h) (signed_by n t u w.0 us rest op e u.class refl w.1 i v))
+pub signed_statement : (n : ℕ) (t u : Lexeme) (ts us rest : List Lexeme) (op : AssignOp) (e : Syn) (names : List Tok) {st : Stmt} → IsWord t → ts ≡ u ∷ us → IsSign u.class (Some op) → names ≡ t.tok ∷ [] → IsEnded n us e rest
+    → HasParts st t.tok.line names false op (Some e) → Statement n (t ∷ ts) st rest
+signed_statement n t u ts us rest op e names {st} w x i h v p =
+    subst (λ l. Statement n (t ∷ l) st rest) (sym x) (signed_by n t u w.0 us rest op e st u.class refl w.1 i v (p.0, p.1 ∙ h, p.2, p.3, p.4))
 
-assigned_to : (n : ℕ) (ts us rest : List Lexeme) (names : List Tok) (unpack : Bool) (e : Syn) → Targets ts names unpack us → IsAssigned n us e rest → Statement n ts (assignment (first_line ts) names unpack o.Set e) rest
-assigned_to n ts us rest names unpack e a v = assigns (subst (λ l. Targets ts names unpack l) v.2 a) v.3 v.4.1 v.4.2
+assigned_to : (n : ℕ) (ts us rest : List Lexeme) (names : List Tok) (unpack : Bool) (e : Syn) (st : Stmt) → Targets ts names unpack us → IsAssigned n us e rest → HasParts st (first_line ts) names unpack o.Set (Some e) → Statement n ts st rest
+assigned_to n ts us rest names unpack e st a v p = assigns (subst (λ l. Targets ts names unpack l) v.2 a) v.3 v.4.1 v.4.2 p
 
-pub several_statement : (n : ℕ) (t c : Lexeme) (ts us mid rest : List Lexeme) (before names all : List Tok) (e : Syn) → IsWord t → ts ≡ c ∷ us → k.Comma ≡ c.class → LaterNames us names mid
-    → all ≡ before ++ names → before ≡ t.tok ∷ [] → IsAssigned n mid e rest → Statement n (t ∷ ts) (assignment t.tok.line all true o.Set e) rest
-several_statement n t c ts us mid rest before names all e w x i l h b v =
+pub several_statement : (n : ℕ) (t c : Lexeme) (ts us mid rest : List Lexeme) (before names all : List Tok) (e : Syn) {st : Stmt} → IsWord t → ts ≡ c ∷ us → k.Comma ≡ c.class → LaterNames us names mid
+    → all ≡ before ++ names → before ≡ t.tok ∷ [] → IsAssigned n mid e rest → HasParts st t.tok.line all true o.Set (Some e) → Statement n (t ∷ ts) st rest
+several_statement n t c ts us mid rest before names all e {st} w x i l h b v p =
     let list : all ≡ t.tok ∷ names = h ∙ ap (λ y. y ++ names) b in
-    subst (λ y. Statement n (t ∷ y) (assignment t.tok.line all true o.Set e) rest) (sym x)
-    (subst (λ y. Statement n (t ∷ c ∷ us) (assignment t.tok.line y true o.Set e) rest) (sym list)
-    (assigned_to n (t ∷ c ∷ us) mid rest (t.tok ∷ names) true e (bare_targets (several_names w.1 (sym i) l)) v))
+    subst (λ y. Statement n (t ∷ y) st rest) (sym x)
+    (assigned_to n (t ∷ c ∷ us) mid rest (t.tok ∷ names) true e st (bare_targets (several_names w.1 (sym i) l)) v (p.0, p.1 ∙ list, p.2, p.3, p.4))
 
 pub one_of_names : (t : Lexeme) (ts : List Lexeme) (names : List Tok) → IsWord t → names ≡ t.tok ∷ [] → Names (t ∷ ts) names false ts
 one_of_names t ts names w h = subst (λ l. Names (t ∷ ts) l false ts) (sym h) (one_name w.1)
@@ -94,18 +91,16 @@ several_of_names t c ts us rest before names all w x i l h b =
     let list : all ≡ t.tok ∷ names = h ∙ ap (λ y. y ++ names) b in
     subst (λ y. Names (t ∷ y) all true rest) (sym x) (subst (λ y. Names (t ∷ c ∷ us) y true rest) (sym list) (several_names w.1 (sym i) l))
 
-pub bracket_statement : (n : ℕ) (t u c : Lexeme) (ts us vs mid rest : List Lexeme) (names : List Tok) (unpack : Bool) (e : Syn) → t.class ≡ k.Open → ts ≡ u ∷ us → Names (u ∷ us) names unpack vs → vs ≡ c ∷ mid → c.class ≡ k.Close
-    → IsAssigned n mid e rest → Statement n (t ∷ ts) (assignment t.tok.line names unpack o.Set e) rest
-bracket_statement n t u c ts us vs mid rest names unpack e i x a y z v =
-    subst (λ l. Statement n (t ∷ l) (assignment t.tok.line names unpack o.Set e) rest) (sym x)
-    (assigned_to n (t ∷ u ∷ us) mid rest names unpack e (bracketed_targets i (subst (λ l. Names (u ∷ us) names unpack l) y a) z) v)
+pub bracket_statement : (n : ℕ) (t u c : Lexeme) (ts us vs mid rest : List Lexeme) (names : List Tok) (unpack : Bool) (e : Syn) {st : Stmt} → t.class ≡ k.Open → ts ≡ u ∷ us → Names (u ∷ us) names unpack vs → vs ≡ c ∷ mid → c.class ≡ k.Close
+    → IsAssigned n mid e rest → HasParts st t.tok.line names unpack o.Set (Some e) → Statement n (t ∷ ts) st rest
+bracket_statement n t u c ts us vs mid rest names unpack e {st} i x a y z v p =
+    subst (λ l. Statement n (t ∷ l) st rest) (sym x)
+    (assigned_to n (t ∷ u ∷ us) mid rest names unpack e st (bracketed_targets i (subst (λ l. Names (u ∷ us) names unpack l) y a) z) v p)
 
-pub import_statement : (n : ℕ) (t : Lexeme) (ts us rest : List Lexeme) (names : List Tok) → t.class ≡ k.From → ts ≡ t ∷ us → IsImport us rest → names ≡ []
-    → Statement n ts (record { line = t.tok.line; targets = names; unpack = false; op = o.ImportAll; value = None }) rest
-import_statement n t ts us rest names h x i e =
+pub import_statement : (n : ℕ) (t : Lexeme) (ts us rest : List Lexeme) {st : Stmt} → t.class ≡ k.From → ts ≡ t ∷ us → IsImport us rest → HasParts st t.tok.line [] false o.ImportAll None → Statement n ts st rest
+import_statement n t ts us rest {st} h x i p =
     let list : ts ≡ t ∷ i.0 ∷ i.1 ∷ i.2 ∷ i.3 ∷ rest = x ∙ ap (λ l. t ∷ l) i.4 in
-    subst (λ l. Statement n ts (record { line = t.tok.line; targets = l; unpack = false; op = o.ImportAll; value = None }) rest) (sym e)
-    (subst (λ l. Statement n l (import_all t.tok.line) rest) (sym list) (imports h i.5 i.6 i.7 i.8))
+    subst (λ l. Statement n l st rest) (sym list) (imports h i.5 i.6 i.7 i.8 p)
 
 pub no_statement_on : (n : ℕ) (j : Class) → ((b : Bool) → j ≡ k.Name b → ⊥) → (j ≡ k.Open → ⊥) → (j ≡ k.From → ⊥) → part_on (a_statement n) j ≡ wrong
 no_statement_on n (k.Name x) a b c = absurd (a x refl)
@@ -186,3 +181,14 @@ reads_bracket n all at t e h (Ok x) d = (
   λ stack. take_at (a_statement n) stack _ t _ (bracket_parts n) e (ap (statement_on n) h) ∙ d.2 stack,
 )
 reads_bracket n all at t e h (Err x) d = λ stack. along all x _ _ (take_at (a_statement n) stack _ t _ (bracket_parts n) e (ap (statement_on n) h)) (d stack)
+
+-- a value and the end of its line, read behind a sign
+pub reads_assigned : (n : ℕ) (all : List Lexeme) (at past : ℕ) (sign : Lexeme) → at < past → drop at all ≡ sign ∷ drop past all → sign.class ≡ k.Assign
+    → ((stack : List Part) → run (token k.Assign ∷ stack) (drop at all) ≡ run stack (drop past all)) → (r : Result (Syn × ℕ) Fault)
+    → ReadsAll (λ x ts rest. IsEnded n ts x.0 rest) (λ x. x.1) (ended_parts n) all past r → ReadsAll (λ x ts rest. IsAssigned n ts x.0 rest) (λ x. x.1) (assigned_parts n) all at r
+reads_assigned n all at past sign l e h g (Ok x) d = (
+  omega (arith, l, d.0),
+  (sign, drop past all, e, h, d.1),
+  λ stack. g (a_value n ∷ token k.End ∷ stack) ∙ d.2 stack,
+)
+reads_assigned n all at past sign l e h g (Err x) d = λ stack. along all x _ _ (g (a_value n ∷ token k.End ∷ stack)) (d stack)

@@ -5,7 +5,6 @@ use Rattle.slices.specs.declared.toks.Tok.{Tok}
 use Rattle.slices.specs.declared.toks.LexAt.{LexAt}
 use Rattle.slices.specs.Tokens.{token_of}
 use Rattle.slices.specs.FormTokens.{FormReader, form_next, finished, no_token, token, form_begins, Scan, no_more, lost, one_more}
-use Rattle.slices.proofs.FormNext.{texts_kept}
 use Rattle.slices.proofs.FormEnd.{EndsALine, ends_a_line}
 use Rattle.ufl_syntax.specs.declared.class.Lexeme.{Lexeme}
 use Rattle.ufl_syntax.specs.declared.tree.Stmt.{Stmt}
@@ -14,9 +13,10 @@ use Rattle.ufl_syntax.specs.Classes.{class_by, lexeme_of, lexemes}
 use Rattle.ufl_syntax.proofs.Refusal.{closed_begins}
 use Rattle.ufl_read.specs.declared.tokens.Fault.{Fault}
 use Rattle.ufl_read.specs.declared.tokens.Fault.TheVariants as f
-use Rattle.ufl_read.specs.Reads.{EndsEarly, IsRefusal}
+use Rattle.ufl_syntax.specs.Refusal.{EndsEarly}
+use Rattle.ufl_read.specs.Reads.{IsRefusal}
 use Rattle.ufl_read.specs.Refusals as r
-use Rattle.ufl_read.specs.Refusals.{started, statement_line, line_or, wrong_by, deep_by, refusal_for, IsUnread, IsFormRefusal, AreShort}
+use Rattle.ufl_read.specs.Refusals.{started, statement_line, line_or, wrong_by, deep_by, refusal_for, IsUnread, IsFormRefusal}
 
 pub line_at_end : (all : List Lexeme) (line : Option ℕ) (at own : ℕ) → started None all ≡ started line (drop at all) → drop at all ≡ [] → statement_line all own ≡ line_or line own
 unfolding statement_line
@@ -42,23 +42,6 @@ scanned_more text now next old new t h e s = (
   λ us x d. subst (λ ts. Scan (form_begins text) ts x) (sym (append_assoc s.0 (t ∷ []) us)) (s.1 (t ∷ us) x (one_more e d)),
   h ∙ ap (λ l. l ++ lexeme_of t ∷ []) s.2 ∙ sym (lexemes_append s.0 (t ∷ [])),
 )
-
-abbrev first_token : Tok → List Lexeme → Tok
-first_token u [] = u
-first_token u (t ∷ ts) = t.tok
-
--- a token with a class at a place is a token at that place
-plain_at : (ts : List Tok) (at : ℕ) (bad : Lexeme) (after : List Lexeme) → drop at (lexemes ts) ≡ bad ∷ after → (t : Tok) × (us : List Tok) × (drop at ts ≡ t ∷ us) × (t ≡ bad.tok)
-plain_at [] zero bad after d = absurd (let x : [] ≡ bad ∷ after = d in cc)
-plain_at [] (suc at) bad after d = absurd (let x : [] ≡ bad ∷ after = d in cc)
-plain_at (t ∷ ts) zero bad after d = (t, ts, refl, ap (first_token t) d)
-plain_at (t ∷ ts) (suc at) bad after d = plain_at ts at bad after d
-
-pub are_short : (text : List ℕ) (ts : List Tok) (e : Option LexAt) (all : List Lexeme) → length text ≤ 262144 → Scan (form_begins text) ts e → all ≡ lexemes ts → AreShort all
-are_short text ts e all h s i = λ at bad after d.
-    let p = plain_at ts at bad after (sym (ap (drop at) i) ∙ d) in
-    let l : length p.0.text.now ≤ 262144 = texts_kept 262144 (form_begins text) ts e h s at p.0 p.1 p.2 in
-    subst (λ t. length t.text.now < 4294967296) p.3 (omega (arith, l))
 
 split_at : (all : List Lexeme) (at : ℕ) (bad : Lexeme) (after : List Lexeme) → drop at all ≡ bad ∷ after → all ≡ take at all ++ bad ∷ after
 split_at all at bad after d = sym (take-append-drop at all) ∙ ap (λ l. take at all ++ l) d

@@ -5,10 +5,9 @@ use Rattle.ufl_syntax.specs.declared.class.Class.TheVariants as k
 use Rattle.ufl_syntax.specs.declared.class.Lexeme.{Lexeme}
 use Rattle.ufl_syntax.specs.declared.tree.AssignOp.{AssignOp}
 use Rattle.ufl_syntax.specs.declared.tree.AssignOp.TheVariants as o
-use Rattle.ufl_syntax.specs.declared.tree.Stmt.{Stmt}
 use Rattle.ufl_syntax.specs.declared.tree.Syn.{Syn}
-use Rattle.ufl_syntax.specs.Grammar.{Value, File}
-use Rattle.ufl_syntax.specs.Refusal.{Begins, IsRefused, IsWrong, IsTooDeep}
+use Rattle.ufl_syntax.specs.Grammar.{Value}
+use Rattle.ufl_syntax.specs.Refusal.{IsRefused, IsWrong, IsTooDeep, EndsEarly}
 use Rattle.ufl_syntax.specs.Machine.{Part, Outcome, ended, stopped, sank, run, may_be_empty, a_value, a_word, after_target, token}
 use Rattle.ufl_read.specs.declared.tokens.Fault.{Fault}
 use Rattle.ufl_read.specs.declared.tokens.Fault.TheVariants as f
@@ -99,13 +98,16 @@ bracket_parts n = a_word n ∷ after_target ∷ token k.Close ∷ token k.Assign
 abbrev pub At : (List Lexeme → Lexeme → Type 0) → List Lexeme → ℕ → Type 0
 At IsBad all at = (bad : Lexeme) × (after : List Lexeme) × (drop at all ≡ bad ∷ after) × IsBad (take at all) bad
 
--- The tokens end too early: they are no list of statements, and some list of statements begins with them.
-abbrev pub EndsEarly : ℕ → List Lexeme → Type 0
-EndsEarly n all = Begins n all × ((sts : List Stmt) → File n all sts [] → ⊥)
-
 -- why the tokens are no list of statements
 abbrev pub IsRefusal : ℕ → List Lexeme → Fault → Type 0
 IsRefusal n all f.Memory = Unit {0}
 IsRefusal n all f.Short = EndsEarly n all
 IsRefusal n all (f.Wrong at) = At (λ front bad. IsRefused n front bad × IsWrong n front bad) all at
 IsRefusal n all (f.Deep at) = At (λ front bad. IsRefused n front bad × IsTooDeep n front bad) all at
+
+-- a refusal of the tokens, and no want of memory
+abbrev pub IsFault : ℕ → List Lexeme → Fault → Type 0
+IsFault n all f.Memory = ⊥
+IsFault n all f.Short = IsRefusal n all f.Short
+IsFault n all (f.Wrong at) = IsRefusal n all (f.Wrong at)
+IsFault n all (f.Deep at) = IsRefusal n all (f.Deep at)

@@ -3,6 +3,7 @@ use Rattle.std.specs.Prelude.{◌≡◌, ◌<◌, ◌≤◌, ◌⊎◌, ℕ, Boo
 use Rattle.slices.specs.declared.toks.Tok.{Tok}
 use Rattle.slices.specs.declared.toks.LexAt.{LexAt}
 use Rattle.slices.specs.FormTokens.{Scan, form_begins}
+use Rattle.slices.specs.Tokens.{token_of}
 use Rattle.ufl_syntax.specs.declared.class.Class.{Class}
 use Rattle.ufl_syntax.specs.declared.class.Class.TheVariants as k
 use Rattle.ufl_syntax.specs.declared.class.Lexeme.{Lexeme}
@@ -15,6 +16,25 @@ use Rattle.ufl_read.specs.declared.tokens.Fault.TheVariants as f
 use Rattle.ufl_read.specs.declared.refusal.FormKind.{FormKind}
 use Rattle.ufl_read.specs.declared.refusal.FormKind.TheVariants as r
 use Rattle.ufl_read.specs.declared.refusal.FormRefusal.{FormRefusal}
+
+-- the number of a kind in messages
+abbrev pub kind_number : FormKind → Option ℕ
+kind_number r.TooLong = Some 1
+kind_number r.Lex = Some 2
+kind_number r.Deep = Some 3
+kind_number r.Syntax = Some 4
+kind_number r.Unsupported = Some 5
+kind_number r.UnknownName = Some 6
+kind_number r.Kind = Some 7
+kind_number r.Shape = Some 8
+kind_number r.FreeIndex = Some 9
+kind_number r.NumberRange = Some 10
+kind_number r.Nodes = Some 11
+kind_number r.Arity = Some 12
+kind_number r.Cost = Some 13
+kind_number r.Size = Some 14
+kind_number r.NoForm = Some 15
+kind_number r.Memory = None
 
 abbrev pub line_or : Option ℕ → ℕ → ℕ
 line_or None own = own
@@ -63,8 +83,16 @@ pub data IsUnread : List ℕ → FormRefusal → Type 0 where
   too_deep : {text : List ℕ} {ts : List Tok} {e : Option LexAt} (front : List Lexeme) (bad : Lexeme) (after : List Lexeme)
       → Scan (form_begins text) ts e → lexemes ts ≡ front ++ bad ∷ after → IsRefused 64 front bad → IsTooDeep 64 front bad → IsUnread text (wordless r.Deep (statement_line front bad.tok.line))
 
+-- why a file is refused, wherever memory lasts
+abbrev pub IsRefusedFile : List ℕ → FormRefusal → Type 0
+IsRefusedFile text e = ((262144 < length text) × (e ≡ wordless r.TooLong 0)) ⊎ ((length text ≤ 262144) × IsUnread text e)
+
 abbrev pub IsFormRefusal : List ℕ → FormRefusal → Type 0
-IsFormRefusal text e = (e ≡ wordless r.Memory 0) ⊎ ((262144 < length text) × (e ≡ wordless r.TooLong 0)) ⊎ ((length text ≤ 262144) × IsUnread text e)
+IsFormRefusal text e = (e ≡ wordless r.Memory 0) ⊎ IsRefusedFile text e
+
+-- the same token, wherever its text lies in memory
+abbrev pub SameToken : Tok → Tok → Type 0
+SameToken t u = token_of t ≡ token_of u
 
 -- the same, from what the reader of tokens says
 abbrev pub wrong_by : List Lexeme → List Lexeme → FormRefusal
@@ -81,7 +109,3 @@ refusal_for ts f.Short None = wordless r.Syntax (statement_line ts 0)
 refusal_for ts f.Short (Some e) = wordless r.Lex (statement_line ts e.line)
 refusal_for ts (f.Wrong at) e = wrong_by (take at ts) (drop at ts)
 refusal_for ts (f.Deep at) e = deep_by (take at ts) (drop at ts)
-
--- the texts of these tokens are shorter than 2^32 bytes
-abbrev pub AreShort : List Lexeme → Type 0
-AreShort ts = (at : ℕ) (bad : Lexeme) (after : List Lexeme) → drop at ts ≡ bad ∷ after → length bad.tok.text.now < 4294967296

@@ -26,7 +26,8 @@ fn read_tokens<'a>(
     ensures { IfOk result (λ r. (ts : List Tok) × Scan (form_begins text.now) ts r.1 × (r.0 ≡ lexemes ts)) }
 {
     let mut tokens = FormToks::new(text);
-    let mut all = Items::new(alloc);
+    // A text has at most one token more than bytes. Only what is filled takes memory.
+    let mut all = Items::from_vec(Vec::with_capacity(alloc, text.len() + 1)?);
     'all: loop {
         let Some(next) = tokens.next() else {
             return Ok((all, None));

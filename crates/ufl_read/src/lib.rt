@@ -5,6 +5,7 @@
 #![tactic(auto)]
 
 mod file;
+pub mod laws;
 mod refusal;
 mod statements;
 mod tokens;

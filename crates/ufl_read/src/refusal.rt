@@ -1,7 +1,7 @@
 // Why a form file is refused.
 
 ghost use Rattle.std.specs.Prelude.{[], ◌≡◌, ◌<◌, ◌≤◌, ◌∷◌, length, drop, take, List, Option};
-ghost use Rattle.ufl_read.specs.Refusals.{line_or, line_started, started, statement_line as line_of_statement, is_foreign as foreign, wordless, wrong_at, refusal_for, AreShort};
+ghost use Rattle.ufl_read.specs.Refusals.{kind_number, line_or, line_started, started, statement_line as line_of_statement, is_foreign as foreign, wordless, wrong_at, refusal_for};
 
 use crate::tokens::{Fault, peek};
 use slices::LexAt;
@@ -32,6 +32,32 @@ pub enum FormKind {
     Size,
     NoForm,
     Memory,
+}
+
+impl FormKind {
+    /// The number that stands before its name in messages, from 1 to 15; none for `Memory`, which is no fault of the file.
+    pub fn number(self) -> Option<u8>
+        ensures { result ≡ kind_number self }
+    {
+        match self {
+            FormKind::TooLong => Some(1),
+            FormKind::Lex => Some(2),
+            FormKind::Deep => Some(3),
+            FormKind::Syntax => Some(4),
+            FormKind::Unsupported => Some(5),
+            FormKind::UnknownName => Some(6),
+            FormKind::Kind => Some(7),
+            FormKind::Shape => Some(8),
+            FormKind::FreeIndex => Some(9),
+            FormKind::NumberRange => Some(10),
+            FormKind::Nodes => Some(11),
+            FormKind::Arity => Some(12),
+            FormKind::Cost => Some(13),
+            FormKind::Size => Some(14),
+            FormKind::NoForm => Some(15),
+            FormKind::Memory => None,
+        }
+    }
 }
 
 /// Why a form file is refused: the line on which the statement begins, counted from 1, or 0 where no statement is refused; and the
@@ -108,7 +134,6 @@ fn is_foreign(class: Class) -> bool
 
 // The refusal of a token that can't stand behind these.
 fn wrong(front: &[Lexeme<'_>], bad: Lexeme<'_>) -> FormRefusal
-    requires { length bad.tok.text.now < 4294967296 }
     ensures { result ≡ wrong_at front.now bad.entry }
 {
     let line = statement_line(front, bad.tok.line);
@@ -127,7 +152,6 @@ fn wrong(front: &[Lexeme<'_>], bad: Lexeme<'_>) -> FormRefusal
 
 // The refusal of tokens with a fault, where no token starts there behind them. The tokens of a whole file never end too early.
 pub fn refusal_of(tokens: &[Lexeme<'_>], fault: Fault, lost: Option<LexAt>) -> FormRefusal
-    requires { AreShort tokens.now }
     ensures { result ≡ refusal_for tokens.now fault lost }
 {
     match fault {

@@ -27,14 +27,21 @@ fn chained<'a>(alloc: Global, first: Syn<'a>, chain: Items<Next<'a>>) -> Result<
     Ok(Syn::Binary(Boxed::new(alloc, first)?, chain))
 }
 
-#[inline(always)]
+// A value with what stands behind it. Behind a chain, which brackets may hold, the chain goes on.
 fn applied<'a>(alloc: Global, first: Syn<'a>, all: Items<Post<'a>>) -> Result<Syn<'a>, AllocError>
     ensures { IfOk result (λ e. e ≡ as_applied first.entry all.entry) }
 {
     if all.is_empty() {
         return Ok(first);
     }
-    Ok(Syn::Postfix(Boxed::new(alloc, first)?, all))
+    match first {
+        Syn::Postfix(base, before) => {
+            let mut posts = before;
+            posts.append(all)?;
+            Ok(Syn::Postfix(base, posts))
+        }
+        other => Ok(Syn::Postfix(Boxed::new(alloc, other)?, all)),
+    }
 }
 
 #[cycle(reader)]

@@ -608,14 +608,14 @@ update_on n k.SubAssign op h = refl
 update_on n _ op h = absurd h
 
 pub c_statement : {n : ℕ} {ts : List Lexeme} {st : Stmt} {rest : List Lexeme} → Statement n ts st rest → (stack : List Part) → run (a_statement n ∷ stack) ts ≡ run stack rest
-c_statement {n = n} (imports {from_ = f} {ufl = u} {import_ = i} {star = s} {end = e} {rest = rest} hf hu hi hs he) stack =
+c_statement {n = n} (imports {from_ = f} {ufl = u} {import_ = i} {star = s} {end = e} {rest = rest} hf hu hi hs he p) stack =
     run_takes (a_statement n) stack f (u ∷ i ∷ s ∷ e ∷ rest) (token (k.Name true) ∷ token k.Import ∷ token k.Times ∷ token k.End ∷ []) (ap (statement_on n) hf)
     ∙ takes_token (k.Name true) (token k.Import ∷ token k.Times ∷ token k.End ∷ stack) u (i ∷ s ∷ e ∷ rest) hu refl
     ∙ takes_token k.Import (token k.Times ∷ token k.End ∷ stack) i (s ∷ e ∷ rest) hi refl
     ∙ takes_token k.Times (token k.End ∷ stack) s (e ∷ rest) hs refl
     ∙ takes_token k.End stack e rest he refl
-c_statement {n = n} (assigns a h v e) stack = c_targets a h n stack ∙ c_ended v e stack
-c_statement {n = n} (updated {t = t} {sign = u} {op = op} {us = us} h x v e) stack =
+c_statement {n = n} (assigns a h v e p) stack = c_targets a h n stack ∙ c_ended v e stack
+c_statement {n = n} (updated {t = t} {sign = u} {op = op} {us = us} h x v e p) stack =
     run_takes (a_statement n) stack t (u ∷ us) (after_first n ∷ []) (ap (statement_on n) h)
     ∙ run_takes (after_first n) stack u us (a_value n ∷ token k.End ∷ []) (update_on n u.class op x) ∙ c_ended v e stack
 
@@ -628,9 +628,9 @@ targets_first (bare_targets a) = names_first a
 targets_first (bracketed_targets h a i) = ap begins_statement h
 
 pub statement_first : {n : ℕ} {ts : List Lexeme} {st : Stmt} {rest : List Lexeme} → Statement n ts st rest → Heads begins_statement true ts
-statement_first (imports hf hu hi hs he) = ap begins_statement hf
-statement_first (assigns a h v e) = targets_first a
-statement_first (updated h x v e) = ap begins_statement h
+statement_first (imports hf hu hi hs he p) = ap begins_statement hf
+statement_first (assigns a h v e p) = targets_first a
+statement_first (updated h x v e p) = ap begins_statement h
 
 pub c_file : {n : ℕ} {ts : List Lexeme} {sts : List Stmt} {rest : List Lexeme} → File n ts sts rest → Ends begins_statement rest → (stack : List Part) → run (statements n ∷ stack) ts ≡ run stack rest
 c_file {n = n} {rest = rest} no_statement end stack = passes (statements n) begins_statement (statements_skip n) refl rest end stack

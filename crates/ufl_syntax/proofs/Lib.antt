@@ -7,3 +7,7 @@ pub mod Depth
 pub mod Refusal
 pub mod Only
 pub mod Unique
+pub mod Statements
+pub mod Chains
+pub mod Whole
+pub mod AlikeLaws

@@ -13,9 +13,10 @@ use Rattle.ufl_syntax.specs.declared.tree.Next.{Next}
 use Rattle.ufl_syntax.specs.declared.tree.Post.{Post}
 use Rattle.ufl_syntax.specs.declared.tree.Post.TheVariants as p
 use Rattle.ufl_syntax.specs.declared.tree.Arg.{Arg}
-use Rattle.ufl_syntax.specs.Grammar.{is_sign, is_factor, updates, first_line, assignment, next, chain, applied, argument, Value, single, tuple, Later, no_later, last, further, Sum, sum, Adds, no_add, add, Term, term, Muls, no_mul, mul, Signed, sign, plain, power, Postfix, postfix, Posts, no_post, one_post, OnePost, call, index, attr, Args, no_arg, last_arg, further_arg, OneArg, positional, keyed, Atom, a_name, a_number, a_text, bracketed, a_list, LaterNames, no_name, last_name, further_name, Names, one_name, several_names, Targets, bare_targets, bracketed_targets, Statement, imports, assigns, updated, File, no_statement, one_statement}
+use Rattle.ufl_syntax.specs.Grammar.{is_sign, is_factor, updates, first_line, next, chain, applied, argument, Value, single, tuple, Later, no_later, last, further, Sum, sum, Adds, no_add, add, Term, term, Muls, no_mul, mul, Signed, sign, plain, power, Postfix, postfix, Posts, no_post, one_post, OnePost, call, index, attr, Args, no_arg, last_arg, further_arg, OneArg, positional, keyed, Atom, a_name, a_number, a_text, bracketed, a_list, LaterNames, no_name, last_name, further_name, Names, one_name, several_names, Targets, bare_targets, bracketed_targets, Statement, imports, assigns, updated, File, no_statement, one_statement}
 use Rattle.ufl_syntax.specs.Machine.{run, Outcome, is_first, is_post, begins_statement, a_sum, a_term, a_signed, a_postfix, an_atom, a_post, an_arg, a_word, after_target, a_statement}
 use Rattle.ufl_syntax.proofs.Viable.{left_of}
+use Rattle.ufl_syntax.proofs.Statements.{same_statement}
 use Rattle.ufl_syntax.proofs.Complete.{Ends, Heads, more, more_arg, more_sum, more_term, more_signed, more_names, ends_by, more_more_arg, more_more_sum, arg_sum, signed_post, adds_end, muls_end, postfix_plain, sum_first, arg_first, post_first, statement_first, rest_not_assign, run_none, run_nothing, c_sum, c_term, c_signed, c_postfix, c_post, c_arg, c_atom, c_names, c_statement}
 
 all_left : (ts : List Lexeme) → left_of (run [] ts) ≡ ts
@@ -337,22 +338,22 @@ ended_one : {n : ℕ} {us : List Lexeme} {e : Syn} {end : Lexeme} {rest : List L
 ended_one v h x c others w i = u_value v (ap more h) x (c ∷ others) w (ap more i)
 
 pub u_statement : {n : ℕ} {ts : List Lexeme} {st : Stmt} {rest : List Lexeme} → Statement n ts st rest → (x : Stmt) (others : List Lexeme) → Statement n ts x others → st ≡ x
-u_statement (imports hf hu hi hs he) x others (imports hf' hu' hi' hs' he') = refl
-u_statement {ts = ts} (imports hf hu hi hs he) x others (assigns a' h' v' e') = absurd (import_open ts (ap is_from hf) (targets_from a'))
-u_statement (imports {from_ = f} hf hu hi hs he) x others (updated {b = b} h' x' v' e') = absurd (import_name f b hf h')
-u_statement {ts = ts} (assigns a h v e) x others (imports hf' hu' hi' hs' he') = absurd (import_open ts (ap is_from hf') (targets_from a))
-u_statement {n = n} {ts = ts} (assigns {names = names} {unpack = unpack} {eq = q} {us = us} {e = y} a h v e) x others (assigns {names = names'} {unpack = unpack'} {eq = q'} {us = us'} {e = y'} {end = c} a' h' v' e') =
+u_statement {st = a} (imports {from_ = f} hf hu hi hs he p) x others (imports hf' hu' hi' hs' he' p') = same_statement a x f.tok.line [] false o.ImportAll None p p'
+u_statement {ts = ts} (imports hf hu hi hs he p) x others (assigns a' h' v' e' p') = absurd (import_open ts (ap is_from hf) (targets_from a'))
+u_statement (imports {from_ = f} hf hu hi hs he p) x others (updated {b = b} h' x' v' e' p') = absurd (import_name f b hf h')
+u_statement {ts = ts} (assigns a h v e p) x others (imports hf' hu' hi' hs' he' p') = absurd (import_open ts (ap is_from hf') (targets_from a))
+u_statement {n = n} {ts = ts} {st = st} (assigns {names = names} {unpack = unpack} {eq = q} {us = us} {e = y} a h v e p) x others (assigns {names = names'} {unpack = unpack'} {eq = q'} {us = us'} {e = y'} {end = c} a' h' v' e' p') =
     let r = tails q q' us us' (targets_rest a (ap more_names h) names' unpack' (q' ∷ us') a' (ap more_names h')) in
     let t = u_targets a (ap more_names h) names' unpack' (q' ∷ us') a' (ap more_names h') in
     let w = ended_one v e y' c others (subst (λ l. Value n l y' (c ∷ others)) (sym r.1) v') e' in
-    ap (λ z. assignment (first_line ts) z unpack o.Set y) t.0 ∙ ap (λ z. assignment (first_line ts) names' z o.Set y) t.1 ∙ ap (λ z. assignment (first_line ts) names' unpack' o.Set z) w
-u_statement (assigns {names = names} {unpack = unpack} {eq = q} {us = us} a h v e) x others (updated {t = t} {b = b} {sign = u} {op = op} {us = vs} h' x' v' e') =
+    same_statement st x (first_line ts) names' unpack' o.Set (Some y') (p.0, p.1 ∙ t.0, p.2 ∙ t.1, p.3, p.4 ∙ ap Some w) p'
+u_statement (assigns {names = names} {unpack = unpack} {eq = q} {us = us} a h v e p) x others (updated {t = t} {b = b} {sign = u} {op = op} {us = vs} h' x' v' e' p') =
     absurd (clash_update t u vs us b names unpack op q h' x' a h)
-u_statement (updated {b = b} h x v e) y others (imports {from_ = f} hf' hu' hi' hs' he') = absurd (import_name f b hf' h)
-u_statement (updated {t = t} {b = b} {sign = u} {op = op} {us = vs} h x v e) y others (assigns {names = names} {unpack = unpack} {eq = q} {us = us} a' h' v' e') =
+u_statement (updated {b = b} h x v e p) y others (imports {from_ = f} hf' hu' hi' hs' he' p') = absurd (import_name f b hf' h)
+u_statement (updated {t = t} {b = b} {sign = u} {op = op} {us = vs} h x v e p) y others (assigns {names = names} {unpack = unpack} {eq = q} {us = us} a' h' v' e' p') =
     absurd (clash_update t u vs us b names unpack op q h x a' h')
-u_statement (updated {t = t} {sign = u} {op = op} {e = y} h x v e) z others (updated {op = op'} {e = y'} {end = c} h' x' v' e') =
-    ap (λ w. assignment t.tok.line (t.tok ∷ []) false w y) (op_one u.class op op' x x') ∙ ap (assignment t.tok.line (t.tok ∷ []) false op') (ended_one v e y' c others v' e')
+u_statement {st = st} (updated {t = t} {sign = u} {op = op} {e = y} h x v e p) z others (updated {op = op'} {e = y'} {end = c} h' x' v' e' p') =
+    same_statement st z t.tok.line (t.tok ∷ []) false op' (Some y') (p.0, p.1, p.2, p.3 ∙ op_one u.class op op' x x', p.4 ∙ ap Some (ended_one v e y' c others v' e')) p'
 
 pub u_file : {n : ℕ} {ts : List Lexeme} {sts : List Stmt} {rest : List Lexeme} → File n ts sts rest → Ends begins_statement rest
     → (xs : List Stmt) (others : List Lexeme) → File n ts xs others → Ends begins_statement others → sts ≡ xs

@@ -1,5 +1,5 @@
 -- What each part may be, and that what the machine takes can be gone on with.
-use Rattle.std.proofs.Common.{[], ◌∷◌, ◌++◌, ◌≡◌, ◌==◌, ◌⊎◌, inl, inr, true, false, Bool, List, ℕ, zero, suc, Some, None, refl, sym, ap, subst, ◌∙◌}
+use Rattle.std.proofs.Common.{[], ◌∷◌, ◌++◌, ◌≡◌, ◌==◌, ◌⊎◌, inl, inr, true, false, Bool, List, ℕ, zero, suc, Some, None, refl, sym, ap, subst, ◌∙◌, arith}
 use Rattle.std.proofs.lemmas.Bool.{eqb-true}
 use Rattle.slices.specs.declared.toks.Tok.{Tok}
 use Rattle.ufl_syntax.specs.declared.class.Class.{Class}
@@ -15,6 +15,7 @@ use Rattle.ufl_syntax.specs.declared.tree.Next.{Next}
 use Rattle.ufl_syntax.specs.declared.tree.Post.{Post}
 use Rattle.ufl_syntax.specs.declared.tree.Arg.{Arg}
 use Rattle.ufl_syntax.specs.Grammar as g
+use Rattle.ufl_syntax.proofs.Statements.{assignment_of, import_of, some_targets}
 use Rattle.ufl_syntax.specs.Grammar.{is_sign, is_factor, updates}
 use Rattle.ufl_syntax.specs.Machine.{Part, Step, takes, skips, wrong, deep, then_, maybe, inside, part_on, atom_on, signed_on, term_on, sum_on, post_on, posts_on, power_on, muls_on, adds_on, arg_on, args_on, name_on, names_on, first_on, statement_on, word_on, comma_on, same, number_of, if_same, statements, a_statement, after_first, later_names, after_target, a_value, a_later, after_sum, a_sum, adds, a_term, muls, a_signed, a_power, a_postfix, an_atom, posts, a_post, args, an_arg, after_arg, after_name, a_word, token}
 
@@ -425,13 +426,14 @@ first_back n t ts rest _ e h = absurd h
 
 assigned_to : (n : ℕ) (ts us rest : List Lexeme) (names : List Tok) (unpack : Bool) → g.Targets ts names unpack us → Assigned n us rest → Is (a_statement n) ts rest
 assigned_to n ts us rest names unpack a h =
-    (g.assignment (g.first_line ts) names unpack o.Set h.4.0, g.assigns (subst (λ l. g.Targets ts names unpack l) h.2 a) h.3 h.4.2 h.4.3)
+    let st = assignment_of (g.first_line ts) names unpack o.Set h.4.0 (some_targets a) in
+    (st, g.assigns (subst (λ l. g.Targets ts names unpack l) h.2 a) h.3 h.4.2 h.4.3 (refl, refl, refl, refl, refl))
 
 pub first_of : (n : ℕ) (t : Lexeme) (ts rest : List Lexeme) (b : Bool) → t.class ≡ k.Name b → AfterFirst n ts rest → Is (a_statement n) (t ∷ ts) rest
 first_of n t ts rest b e (inl h) = assigned_to n (t ∷ ts) ts rest (t.tok ∷ []) false (g.bare_targets (g.one_name e)) h
 first_of n t ts rest b e (inr (inl h)) =
-    let st = g.assignment t.tok.line (t.tok ∷ []) false h.2 h.5.0 in
-    (st, subst (λ l. g.Statement n (t ∷ l) st rest) (sym h.3) (g.updated e h.4 h.5.2 h.5.3))
+    let st = assignment_of t.tok.line (t.tok ∷ []) false h.2 h.5.0 (omega arith) in
+    (st, subst (λ l. g.Statement n (t ∷ l) st rest) (sym h.3) (g.updated e h.4 h.5.2 h.5.3 (refl, refl, refl, refl, refl)))
 first_of n t ts rest b e (inr (inr h)) =
     assigned_to n (t ∷ ts) h.2 rest (t.tok ∷ h.5.0) true
     (subst (λ l. g.Targets (t ∷ l) (t.tok ∷ h.5.0) true h.2) (sym h.3) (g.bare_targets (g.several_names e h.4 h.5.1))) h.6
@@ -458,10 +460,10 @@ import_back n t ts rest e h =
     let i = h.2.1 in
     let x = h.2.2.1 in
     let c = closed k.End h.2.2.0 rest h.2.2.2 in
-    let st = g.import_all t.tok.line in
+    let st = import_of t.tok.line in
     let list : ts ≡ u.0 ∷ i.0 ∷ x.0 ∷ c.0 ∷ rest =
     u.1 ∙ ap (λ l. u.0 ∷ l) i.1 ∙ ap (λ l. u.0 ∷ i.0 ∷ l) x.1 ∙ ap (λ l. u.0 ∷ i.0 ∷ x.0 ∷ l) c.1 in
-    (st, subst (λ l. g.Statement n (t ∷ l) st rest) (sym list) (g.imports e u.2 i.2 x.2 c.2))
+    (st, subst (λ l. g.Statement n (t ∷ l) st rest) (sym list) (g.imports e u.2 i.2 x.2 c.2 (refl, refl, refl, refl, refl)))
 
 statement_back : (n : ℕ) (t : Lexeme) (ts rest : List Lexeme) (j : Class) → t.class ≡ j → AllOf (statement_on n j) ts rest → Is (a_statement n) (t ∷ ts) rest
 statement_back n t ts rest (k.Name b) e h = first_of n t ts rest b e (one (after_first n) ts rest h)

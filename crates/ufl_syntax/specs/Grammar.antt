@@ -16,7 +16,7 @@
 --
 -- Each relation says that its tokens begin with such a part, which is this tree, and what is left.
 -- The number is how many brackets, signs and `**` may still be open inside.
-use Rattle.std.specs.Prelude.{◌≡◌, ℕ, suc, Bool, true, false, List, [], ◌∷◌, Option, Some, None}
+use Rattle.std.specs.Prelude.{◌≡◌, ℕ, suc, Bool, true, false, List, [], ◌∷◌, ◌++◌, Option, Some, None}
 use Rattle.slices.specs.declared.toks.Tok.{Tok}
 use Rattle.ufl_syntax.specs.declared.class.Class.{Class}
 use Rattle.ufl_syntax.specs.declared.class.Class.TheVariants as k
@@ -24,7 +24,7 @@ use Rattle.ufl_syntax.specs.declared.class.Lexeme.{Lexeme}
 use Rattle.ufl_syntax.specs.declared.tree.AssignOp.{AssignOp}
 use Rattle.ufl_syntax.specs.declared.tree.AssignOp.TheVariants as o
 use Rattle.ufl_syntax.specs.declared.tree.Stmt.{Stmt}
-use Rattle.ufl_syntax.specs.declared.tree.Syn.{Syn}
+use Rattle.ufl_syntax.specs.declared.tree.Syn.{Syn, Syn-F, out-Syn}
 use Rattle.ufl_syntax.specs.declared.tree.Syn.TheVariants as s
 use Rattle.ufl_syntax.specs.declared.tree.Next.{Next, roll-Next}
 use Rattle.ufl_syntax.specs.declared.tree.Post.{Post}
@@ -52,19 +52,33 @@ abbrev pub chain : Syn → List Next → Syn
 chain e [] = e
 chain e (n ∷ ns) = s.Binary e (n ∷ ns)
 
+-- the value that a chain of calls, indices and attributes begins with, which is none itself, and what stands behind it
+abbrev pub base_by : Syn → Syn-F Post Syn Arg Next → Syn
+base_by e (Syn-F.Postfix base ps) = base
+base_by e _ = e
+
+abbrev pub posts_by : Syn-F Post Syn Arg Next → List Post
+posts_by (Syn-F.Postfix base ps) = ps
+posts_by _ = []
+
+unfoldable pub base_of : Syn → Syn
+base_of e = base_by e (out-Syn e)
+
+unfoldable pub posts_of : Syn → List Post
+posts_of e = posts_by (out-Syn e)
+
+-- behind a chain, in brackets or not, one chain goes on
 abbrev pub applied : Syn → List Post → Syn
 applied e [] = e
-applied e (q ∷ qs) = s.Postfix e (q ∷ qs)
+applied e (q ∷ qs) = s.Postfix (base_of e) (posts_of e ++ q ∷ qs)
 
 abbrev pub first_line : List Lexeme → ℕ
 first_line [] = 0
 first_line (t ∷ ts) = t.tok.line
 
-abbrev pub import_all : ℕ → Stmt
-import_all line = record { line = line; targets = []; unpack = false; op = o.ImportAll; value = None }
-
-abbrev pub assignment : ℕ → List Tok → Bool → AssignOp → Syn → Stmt
-assignment line targets unpack op e = record { line = line; targets = targets; unpack = unpack; op = op; value = Some e }
+-- the statement has these parts
+abbrev pub HasParts : Stmt → ℕ → List Tok → Bool → AssignOp → Option Syn → Type 0
+HasParts st line targets unpack op value = (st.line ≡ line) × (st.targets ≡ targets) × (st.unpack ≡ unpack) × (st.op ≡ op) × (st.value ≡ value)
 
 -- the signs that change a value
 abbrev pub updates : Class → AssignOp → Type 0
@@ -176,15 +190,18 @@ pub data Targets : List Lexeme → List Tok → Bool → List Lexeme → Type 0 
       → open_.class ≡ k.Open → Names ts names unpack (close ∷ rest) → close.class ≡ k.Close → Targets (open_ ∷ ts) names unpack rest
 
 pub data Statement : ℕ → List Lexeme → Stmt → List Lexeme → Type 0 where
-  imports : {n : ℕ} {from_ : Lexeme} {ufl : Lexeme} {import_ : Lexeme} {star : Lexeme} {end : Lexeme} {rest : List Lexeme}
+  imports : {n : ℕ} {from_ : Lexeme} {ufl : Lexeme} {import_ : Lexeme} {star : Lexeme} {end : Lexeme} {st : Stmt} {rest : List Lexeme}
       → from_.class ≡ k.From → ufl.class ≡ k.Name true → import_.class ≡ k.Import → star.class ≡ k.Times → end.class ≡ k.End
-      → Statement n (from_ ∷ ufl ∷ import_ ∷ star ∷ end ∷ rest) (import_all from_.tok.line) rest
-  assigns : {n : ℕ} {ts : List Lexeme} {names : List Tok} {unpack : Bool} {eq : Lexeme} {us : List Lexeme} {e : Syn} {end : Lexeme} {rest : List Lexeme}
+      → HasParts st from_.tok.line [] false o.ImportAll None
+      → Statement n (from_ ∷ ufl ∷ import_ ∷ star ∷ end ∷ rest) st rest
+  assigns : {n : ℕ} {ts : List Lexeme} {names : List Tok} {unpack : Bool} {eq : Lexeme} {us : List Lexeme} {e : Syn} {end : Lexeme} {st : Stmt} {rest : List Lexeme}
       → Targets ts names unpack (eq ∷ us) → eq.class ≡ k.Assign → Value n us e (end ∷ rest) → end.class ≡ k.End
-      → Statement n ts (assignment (first_line ts) names unpack o.Set e) rest
-  updated : {n : ℕ} {t : Lexeme} {b : Bool} {sign : Lexeme} {op : AssignOp} {us : List Lexeme} {e : Syn} {end : Lexeme} {rest : List Lexeme}
+      → HasParts st (first_line ts) names unpack o.Set (Some e)
+      → Statement n ts st rest
+  updated : {n : ℕ} {t : Lexeme} {b : Bool} {sign : Lexeme} {op : AssignOp} {us : List Lexeme} {e : Syn} {end : Lexeme} {st : Stmt} {rest : List Lexeme}
       → t.class ≡ k.Name b → updates sign.class op → Value n us e (end ∷ rest) → end.class ≡ k.End
-      → Statement n (t ∷ sign ∷ us) (assignment t.tok.line (t.tok ∷ []) false op e) rest
+      → HasParts st t.tok.line (t.tok ∷ []) false op (Some e)
+      → Statement n (t ∷ sign ∷ us) st rest
 
 pub data File : ℕ → List Lexeme → List Stmt → List Lexeme → Type 0 where
   no_statement : {n : ℕ} {rest : List Lexeme} → File n rest [] rest

@@ -35,3 +35,19 @@ IsTooDeep n front bad = (n < depth_at (front ++ bad ∷ [])) × (BeginsAny (fron
 -- The grammar can't go on with the bad token, and it is no opening bracket that is too deep.
 abbrev pub IsWrong : ℕ → List Lexeme → Lexeme → Type 0
 IsWrong n front bad = (BeginsAny (front ++ bad ∷ []) → ⊥) × (is_opening bad.class ≡ true → depth_at (front ++ bad ∷ []) ≤ n)
+
+-- The tokens end too early: they are no list of statements, and some list of statements begins with them.
+abbrev pub EndsEarly : ℕ → List Lexeme → Type 0
+EndsEarly n all = Begins n all × ((sts : List Stmt) → File n all sts [] → ⊥)
+
+-- this token among them is refused, behind these, for one of two reasons
+abbrev pub StopsAt : ℕ → List Lexeme → List Lexeme → Lexeme → Type 0
+StopsAt n all front bad = (after : List Lexeme) × (all ≡ front ++ bad ∷ after) × IsRefused n front bad × (IsWrong n front bad ⊎ IsTooDeep n front bad)
+
+-- some token among them is refused
+abbrev pub Stops : ℕ → List Lexeme → Type 0
+Stops n all = (front : List Lexeme) × (bad : Lexeme) × StopsAt n all front bad
+
+-- they are a list of statements
+abbrev pub AreStatements : ℕ → List Lexeme → Type 0
+AreStatements n all = (sts : List Stmt) × File n all sts []

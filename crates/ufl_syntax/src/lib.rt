@@ -5,6 +5,7 @@
 #![tactic(auto)]
 
 mod class;
+pub mod laws;
 mod tree;
 
 pub use class::{Class, Lexeme};

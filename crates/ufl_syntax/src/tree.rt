@@ -1,3 +1,6 @@
+ghost use Rattle.std.specs.Prelude.{◌≡◌, ◌≢◌, ◌<◌, true, is_some, length};
+ghost use Rattle.ufl_syntax.specs.declared.tree.AssignOp.TheVariants.{ImportAll};
+
 use slices::Tok;
 use sqlite_items::{Boxed, Items};
 
@@ -14,7 +17,7 @@ pub enum AssignOp {
     ImportAll,
 }
 
-/// A statement.
+/// A statement. All but `ImportAll` have a target and a value.
 #[derive(Drop)]
 pub struct Stmt<'a> {
     /// The line of its first token, counted from 1.
@@ -26,6 +29,7 @@ pub struct Stmt<'a> {
     pub op: AssignOp,
     /// None for `ImportAll` alone.
     pub value: Option<Syn<'a>>,
+    pub ghost assigned: { op ≢ ImportAll → (0 < length targets) × (is_some value ≡ true) },
 }
 
 /// A value as it is written. Chains of one level are lists, so a tree is no higher than its brackets, signs and `**` nest.
@@ -44,7 +48,7 @@ pub enum Syn<'a> {
     Sign(Tok<'a>, Boxed<Syn<'a>>),
     /// Operands of `+` and `-`, of `*` and `/`, or the two of one `**`.
     Binary(Boxed<Syn<'a>>, Items<Next<'a>>),
-    /// Calls, indices and attributes of a value, in the order in which they stand.
+    /// Calls, indices and attributes of a value that is no such chain, in the order in which they stand.
     Postfix(Boxed<Syn<'a>>, Items<Post<'a>>),
 }
 

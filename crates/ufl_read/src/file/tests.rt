@@ -180,7 +180,7 @@ const STATEMENTS: [(&str, &str); 12] = [
 ];
 
 // Values, by every rule of the grammar.
-const VALUES: [(&str, &str); 20] = [
+const VALUES: [(&str, &str); 23] = [
     ("a = 1 + 2 - 3", "1 a = {1+2-3};"),
     ("a = 1 + 2*3/4", "1 a = {1+{2*3/4}};"),
     ("a = -u**2", "1 a = <-{u**2}>;"),
@@ -195,6 +195,9 @@ const VALUES: [(&str, &str); 20] = [
     ("a = f(x,)", "1 a = {f(x )};"),
     ("a = f(x, y=2*z, w)", "1 a = {f(x y={2*z} w )};"),
     ("a = f(x)(y)[z].n", "1 a = {f(x )(y )[z].n};"),
+    ("a = (u.dx)(0)", "1 a = {u.dx(0 )};"),
+    ("a = ((f(x))(y)[z]).n", "1 a = {f(x )(y )[z].n};"),
+    ("a = (u + v).dx(0)", "1 a = {{u+v}.dx(0 )};"),
     ("a = u[i, j]", "1 a = {u[(i j )]};"),
     ("a = (u)", "1 a = u;"),
     ("a = (u,)", "1 a = (u );"),

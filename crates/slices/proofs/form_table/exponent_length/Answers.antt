@@ -1,4 +1,4 @@
-use Rattle.std.proofs.Common.{◌≡◌, ◌+◌, ◌∙◌, sym, ap, arith}
+use Rattle.std.proofs.Common.{◌∙◌, sym, arith}
 use Rattle.slices.proofs.Form.{exponent_end, exponent_small, exponent_large, exponent_none}
 use Rattle.slices.proofs.form_table.exponent_length.Goals as goal
 

@@ -1,4 +1,4 @@
-use Rattle.std.proofs.Common.{◌≡◌, ◌+◌, ◌∙◌, sym, ap, arith}
+use Rattle.std.proofs.Common.{◌+◌, ◌∙◌, sym, ap, arith}
 use Rattle.slices.proofs.Form.{fraction_end, fraction_some, fraction_none}
 use Rattle.slices.proofs.form_table.fraction_length.Goals as goal
 

@@ -1,4 +1,4 @@
-use Rattle.std.proofs.Common.{◌≡◌, ◌+◌, ◌<◌, subst, sym}
+use Rattle.std.proofs.Common.{◌<◌, subst, sym}
 use Rattle.slices.proofs.Form.{number_is, number_some}
 use Rattle.slices.proofs.form_table.number_length.Goals as goal
 

@@ -1,4 +1,4 @@
-use Rattle.std.proofs.Common.{◌≡◌, ◌+◌, ◌∙◌, sym, ap, arith}
+use Rattle.std.proofs.Common.{◌∙◌, sym, ap, arith}
 use Rattle.slices.specs.FormTable.{with_digits}
 use Rattle.slices.proofs.Form.{power_end, power_plus, power_minus, power_plain}
 use Rattle.slices.proofs.form_table.power_length.Goals as goal

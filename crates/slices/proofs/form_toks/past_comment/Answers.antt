@@ -1,4 +1,4 @@
-use Rattle.std.proofs.Common.{◌≡◌, ◌∙◌}
+use Rattle.std.proofs.Common.{◌∙◌}
 use Rattle.slices.proofs.FormNext.{comment_feed}
 use Rattle.slices.proofs.form_toks.past_comment.Goals as goal
 

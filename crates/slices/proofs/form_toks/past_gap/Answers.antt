@@ -1,4 +1,4 @@
-use Rattle.std.proofs.Common.{◌≡◌, ◌∙◌, ◌≤◌, ◌+◌, arith}
+use Rattle.std.proofs.Common.{◌∙◌, ◌≤◌, arith}
 use Rattle.slices.proofs.FormNext.{join_gap}
 use Rattle.slices.proofs.form_toks.past_gap.Goals as goal
 

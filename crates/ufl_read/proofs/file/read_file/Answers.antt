@@ -2,24 +2,14 @@ use Rattle.std.proofs.Common.{◌∙◌, sym, ap, subst, arith}
 use Rattle.ufl_read.specs.declared.tokens.Fault.TheVariants as f
 use Rattle.slices.specs.FormTokens.{Scan, form_begins}
 use Rattle.ufl_read.specs.Refusals.{IsFormRefusal, refusal_for}
-use Rattle.ufl_read.proofs.Whole.{are_short, refused, lost_after}
+use Rattle.ufl_read.proofs.Whole.{refused, lost_after}
 use Rattle.ufl_read.proofs.file.read_file.Goals as goal
-
-pub refusal_of-requires : goal.refusal_of-requires
-refusal_of-requires c =
-    let t = c.in_ok-lexemes.ensures in
-    are_short c.args.text.now t.0 c.in_ok-lexemes.lost c.as_slice-tokens.result.now (omega (arith, c.if-text-gt-LIMIT.false)) t.1 (c.as_slice-tokens.ensures ∙ t.2)
 
 pub returns-in-Err-clause-refused : goal.returns-in-Err-clause-refused
 returns-in-Err-clause-refused c =
     let t = c.in_ok-lexemes.ensures in
     subst (λ e. IsFormRefusal c.args.text.now e) (sym c.refusal_of.ensures)
     (refused c.args.text.now t.0 c.in-Err.fault c.in_ok-lexemes.lost c.as_slice-tokens.result.now (omega (arith, c.if-text-gt-LIMIT.false)) t.1 (c.as_slice-tokens.ensures ∙ t.2) c.in-Err.ensures.refused)
-
-pub refusal_of-requires-in-Some : goal.refusal_of-requires-in-Some
-refusal_of-requires-in-Some c =
-    let t = c.in_ok-lexemes.ensures in
-    are_short c.args.text.now t.0 c.in_ok-lexemes.lost c.as_slice-tokens.result.now (omega (arith, c.if-text-gt-LIMIT.false)) t.1 (c.as_slice-tokens.ensures ∙ t.2)
 
 pub returns-clause-refused : goal.returns-clause-refused
 returns-clause-refused c =

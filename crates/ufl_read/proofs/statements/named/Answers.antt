@@ -22,7 +22,7 @@ pub returns-in-Some-assign_op : goal.returns-in-Some-assign_op
 returns-in-Some-assign_op c =
     let value = c.in_ok-value.ensures in (
       omega (arith, value.0),
-      signed_statement c.args.room c.args.first c.in-Some.sign _ _ _ c.in-Some-assign_op.op _ _ c.requires c.in-Some.ensures.0 c.in-Some-assign_op.ensures c.in_ok-targets.ensures value.1,
+      signed_statement c.args.room c.args.first c.in-Some.sign _ _ _ c.in-Some-assign_op.op _ _ c.requires c.in-Some.ensures.0 c.in-Some-assign_op.ensures c.in_ok-targets.ensures value.1 (refl, refl, refl, refl, refl),
       λ stack.
           take_at (after_first c.args.room) stack _ c.in-Some.sign _ (ended_parts c.args.room) c.in-Some.ensures.0 (sign_takes c.args.room c.in-Some.sign.class c.in-Some-assign_op.op c.in-Some-assign_op.ensures)
           ∙ value.2 stack,
@@ -55,7 +55,7 @@ returns c =
     let names = c.in_ok-targets-2.ensures in
     let value = c.in_ok-value-2.ensures in (
       omega (arith, names.0, value.0),
-      several_statement c.args.room c.args.first c.in-Some.sign _ _ _ _ _ _ _ _ c.requires c.in-Some.ensures.0 is_comma names.1.1 names.1.2 c.in_ok-targets.ensures value.1,
+      several_statement c.args.room c.args.first c.in-Some.sign _ _ _ _ _ _ _ _ c.requires c.in-Some.ensures.0 is_comma names.1.1 names.1.2 c.in_ok-targets.ensures value.1 (refl, refl, refl, refl, refl),
       λ stack.
           take_at (after_first c.args.room) stack _ c.in-Some.sign _ (later_names ∷ assigned_parts c.args.room) c.in-Some.ensures.0 (ap (first_on c.args.room) (sym is_comma))
           ∙ names.2 (assigned_parts c.args.room ++ stack) ∙ value.2 stack,

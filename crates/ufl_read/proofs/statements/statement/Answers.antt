@@ -20,7 +20,7 @@ pub returns-in_ok-end-in-From : goal.returns-in_ok-end-in-From
 returns-in_ok-end-in-From c =
     let end = c.in_ok-end-in-From.ensures in (
       omega (arith, end.0),
-      import_statement c.args.room c.in-Some.first _ _ _ _ c.in-From.is c.in-Some.ensures.0 end.1 c.new-targets.ensures,
+      import_statement c.args.room c.in-Some.first _ _ _ c.in-From.is c.in-Some.ensures.0 end.1 (refl, c.new-targets.ensures, refl, refl, refl),
       λ stack. take_at (a_statement c.args.room) stack _ c.in-Some.first _ import_parts c.in-Some.ensures.0 (ap (statement_on c.args.room) c.in-From.is) ∙ end.2 stack,
     )
 
