@@ -7,3 +7,5 @@ pub mod InverseLaws
 pub mod LowestLaws
 pub mod SumLaws
 pub mod StepLaws
+pub mod OverLaws
+pub mod OverSteps

@@ -14,3 +14,4 @@ pub mod LowestTerms
 pub mod Steps
 pub mod Order
 pub mod Sums
+pub mod Over

@@ -19,3 +19,4 @@ pub mod MassShare
 pub mod Nodes
 pub mod PulledBackDerivative
 pub mod Monomials
+pub mod WholeIntegral

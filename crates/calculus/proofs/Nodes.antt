@@ -39,7 +39,7 @@ value-vertex_factor s q b a m h =
     (value-falling s (times (whole q) b) a
     ∙ ap (λ x. N.falling fractions x a) (value-times s (whole q) b ∙ ap (λ x. mul x (value s b)) (value-constant s (natural fractions q)) ∙ h))
 
-factorial_positive : (a : ℕ) → 0 < factorial a
+pub factorial_positive : (a : ℕ) → 0 < factorial a
 factorial_positive zero = M.zero-lt-suc 0
 factorial_positive (suc a) = M.mul-pos (M.zero-lt-suc a) (factorial_positive a)
 

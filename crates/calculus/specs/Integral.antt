@@ -1,5 +1,5 @@
 -- The shadow integral of a polynomial over a simplex: iterated antiderivatives, with the boundary taken facet by facet
-use Rattle.std.specs.Prelude.{ℕ, zero, suc, ◌+◌, true, false, [], ◌∷◌}
+use Rattle.std.specs.Prelude.{◌≡◌, ℕ, zero, suc, ◌+◌, true, false, [], ◌∷◌}
 use Rattle.algebra.specs.Fraction.{Fraction, is_zero_fraction, is_below_zero, absolute}
 use Rattle.calculus.specs.Point.{Point}
 use Rattle.calculus.specs.Polynomial.{Polynomial, nil, plus, times, negative, constant, coordinate, antiderivative, composed, constant_term}
@@ -94,6 +94,14 @@ unfoldable pub pulled_back_integral : Simplex → Polynomial → Polynomial
 pulled_back_integral v p =
     times (constant (absolute (volume v))) (shadow_integral (dimension v) (reference (dimension v)) (composed (affine v) p))
 
--- the integral as a number, for a polynomial without parameters
+-- variable i where it is below d, else 0
+abbrev pub below : ℕ → ℕ → Polynomial
+below d i = elim (is_less i d) [ true ↦ coordinate i | false ↦ nil ]
+
+-- a polynomial in the variables below d: with 0 for all others, parameters among them, it stays the same
+abbrev pub HasOnlyBelow : ℕ → Polynomial → Type 0
+HasOnlyBelow d p = composed (below d) p ≡ p
+
+-- the integral as a number: its term without a variable, and all of it where the polynomial has only coordinates below the dimension
 abbrev pub integral_value : Simplex → Polynomial → Fraction
 integral_value v p = constant_term (cell_integral v p)

@@ -6,7 +6,7 @@ ghost use Rattle.calculus.specs.Point.{Point};
 ghost use Rattle.calculus.specs.Polynomial.{Polynomial, one, times, minus, constant, coordinate, derivative, composed, power, whole, value};
 ghost use Rattle.calculus.specs.Simplex.{Simplex, IsCell, dimension, volume, reference, affine, is_less};
 ghost use Rattle.calculus.specs.Jacobian.{inverse_jacobian};
-ghost use Rattle.calculus.specs.Integral.{sum_below, shadow_integral, cell_integral, pulled_back_integral, integral_value};
+ghost use Rattle.calculus.specs.Integral.{sum_below, shadow_integral, cell_integral, pulled_back_integral, integral_value, HasOnlyBelow};
 ghost use Rattle.calculus.specs.LocalFunction.{factorial, degree_of, local_function, node_in};
 ghost use Rattle.calculus.specs.Mass.{mass_factor, mass_density};
 
@@ -35,6 +35,12 @@ pub fn tetrahedron()
 /// The integral over a cell is the one that textbooks compute on the reference cell.
 pub fn cell()
     ensures { (v : Simplex) → IsCell v → (p : Polynomial) → cell_integral v p ≡ pulled_back_integral v p }
+{}
+
+/// The integral of a polynomial in the coordinates of the cell's dimension alone is a number, on flat cells too: nothing of it is
+/// left out of `integral_value`.
+pub fn whole_integral()
+    ensures { (v : Simplex) → IsCell v → (p : Polynomial) → HasOnlyBelow (dimension v) p → constant (integral_value v p) ≡ cell_integral v p }
 {}
 
 /// The integrals of products of powers over the reference cells, by factorials.

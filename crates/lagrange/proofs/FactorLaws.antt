@@ -28,7 +28,7 @@ pub factor_step : (x p s shift next r : Polynomial) (f : Fraction) (m : ℕ) →
 factor_step x p s shift next r f m pe se fe he ne re =
     re ∙ ap₂ times pe (ne ∙ ap₂ plus se (he ∙ ap constant fe ∙ constant-negative (natural fractions m)))
 
-one_over : (n : ℕ) → over 1 n ≡ inverse (natural fractions n)
+pub one_over : (n : ℕ) → over 1 n ≡ inverse (natural fractions n)
 one_over n = ap (λ x. mul x (inverse (natural fractions n))) (add_zero one_fraction) ∙ mul_comm one_fraction (inverse (natural fractions n)) ∙ mul_one (inverse (natural fractions n))
 
 pub factor_done : (q : ℕ) (b p : Polynomial) (a m n : ℕ) (r : Polynomial) (f : Fraction) → r ≡ times (constant f) p → f ≡ over 1 n → n ≡ factorial a

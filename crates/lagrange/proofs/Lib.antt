@@ -2,5 +2,5 @@ pub mod FactorLaws
 pub mod NodeLaws
 pub mod Binomials
 pub mod SumLaws
-pub mod AllNodes
 pub mod NodeValues
+pub mod Sizes

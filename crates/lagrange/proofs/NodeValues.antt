@@ -12,10 +12,9 @@ use Rattle.spaces.specs.declared.cell.Cell.{Cell}
 use Rattle.spaces.specs.declared.cell.Cell.TheVariants.{Interval, Triangle, Tetrahedron}
 use Rattle.spaces.specs.Cell.{dimension}
 use Rattle.spaces.specs.Family.{node_count}
-use Rattle.lagrange.specs.Nodes.{rank, nodes_of}
-use Rattle.lagrange.specs.Sums.{comes_before, before_all, in_strict_order}
-use Rattle.lagrange.proofs.NodeLaws.{both_true, node_number, node_at}
-use Rattle.lagrange.proofs.AllNodes.{strict_order}
+use Rattle.spaces.specs.Nodes.{rank, nodes_of, comes_before, before_all, in_strict_order}
+use Rattle.spaces.proofs.NodeLaws.{both_true, node_number, node_at}
+use Rattle.spaces.proofs.AllNodes.{strict_order}
 
 -- ---- no node stands twice
 not_less : (x : ℕ) → nat_lt x x ≡ false

@@ -11,7 +11,7 @@ use Rattle.calculus.proofs.LocalFunctions.{factors_of}
 use Rattle.spaces.specs.declared.cell.Cell.{Cell}
 use Rattle.spaces.specs.declared.cell.Cell.TheVariants.{Interval, Triangle, Tetrahedron}
 use Rattle.spaces.specs.Cell.{dimension}
-use Rattle.lagrange.specs.Nodes.{each_with, with_first, choices, rank, is_before, put, in_order, nodes_of}
+use Rattle.spaces.specs.Nodes.{each_with, with_first, choices, rank, is_before, put, in_order, nodes_of}
 use Rattle.lagrange.specs.Sums.{sum_over}
 use Rattle.lagrange.proofs.Binomials.{binomial, binomial_zero, binomial_nil, binomial_own, convolution, vandermonde}
 use Rattle.lagrange.proofs.NodeLaws.{on_reference}

@@ -1,4 +1,4 @@
-//! Nodes in order, and basis functions with their values and integrals.
+//! Basis functions with their values and integrals.
 
 ghost use Rattle.std.specs.Prelude.{◌<◌, ◌≤◌};
 ghost use Rattle.spaces.specs.Family.{node_count as nodes_of_cell};
@@ -6,74 +6,9 @@ ghost use Rattle.spaces.specs.Family.{node_count as nodes_of_cell};
 use super::*;
 use polyalg::{Poly, ref_integral};
 use ratio::Ratio;
-use spaces::{Cell, node_count};
+use spaces::{Cell, node_count, weights};
 use std::alloc::Global;
 use std::test::Fail;
-
-/// How many nodes the degrees 0 to 3 have.
-const COUNTS: [(Cell, [usize; 4]); 3] = [
-    (Cell::Interval, [1, 2, 3, 4]),
-    (Cell::Triangle, [1, 3, 6, 10]),
-    (Cell::Tetrahedron, [1, 4, 10, 20]),
-];
-
-#[test]
-fn nodes_in_order(rt: HostRuntime) -> Result<(), Fail> {
-    let lists: [(Cell, u8, &[[u8; 4]]); 4] = [
-        (Cell::Tetrahedron, 0, &[[0, 0, 0, 0]]),
-        (
-            Cell::Interval,
-            3,
-            &[[3, 0, 0, 0], [0, 3, 0, 0], [1, 2, 0, 0], [2, 1, 0, 0]],
-        ),
-        (
-            Cell::Triangle,
-            3,
-            &[
-                [3, 0, 0, 0],
-                [0, 3, 0, 0],
-                [0, 0, 3, 0],
-                [1, 2, 0, 0],
-                [2, 1, 0, 0],
-                [1, 0, 2, 0],
-                [2, 0, 1, 0],
-                [0, 1, 2, 0],
-                [0, 2, 1, 0],
-                [1, 1, 1, 0],
-            ],
-        ),
-        (
-            Cell::Tetrahedron,
-            2,
-            &[
-                [2, 0, 0, 0],
-                [0, 2, 0, 0],
-                [0, 0, 2, 0],
-                [0, 0, 0, 2],
-                [1, 1, 0, 0],
-                [1, 0, 1, 0],
-                [1, 0, 0, 1],
-                [0, 1, 1, 0],
-                [0, 1, 0, 1],
-                [0, 0, 1, 1],
-            ],
-        ),
-    ];
-    for (cell, degree, wanted) in &lists {
-        assert!(rt; *degree <= 3);
-        assert!(rt;
-            nodes(rt.alloc(), *cell, *degree)?.as_slice() == *wanted,
-            "{cell:?} {degree}"
-        );
-    }
-    for (cell, counts) in COUNTS {
-        for degree in 0..4u8 {
-            let listed = nodes(rt.alloc(), cell, degree)?.len();
-            assert!(rt; listed == counts[degree as usize], "{cell:?} {degree}");
-        }
-    }
-    Ok(())
-}
 
 /// The number times (weight/degree)^exponent.
 fn scaled(start: Ratio, weight: u8, degree: u8, exponent: u32) -> Option<Ratio> {
@@ -122,7 +57,7 @@ fn is_nodal(alloc: Global, cell: Cell, degree: u8) -> Result<bool, Fail>
 
 #[test]
 fn one_at_its_node_and_zero_at_the_others(rt: HostRuntime) -> Result<(), Fail> {
-    for (cell, _) in COUNTS {
+    for cell in [Cell::Interval, Cell::Triangle, Cell::Tetrahedron] {
         for degree in 1..4u8 {
             assert!(rt; is_nodal(rt.alloc(), cell, degree)?, "{cell:?} {degree}");
         }

@@ -4,7 +4,6 @@ use Rattle.algebra.specs.Ring.{natural}
 use Rattle.algebra.specs.RingLaws as L
 use Rattle.algebra.specs.IntegerMap.{natural-mul}
 use Rattle.algebra.specs.Solver.{at, ◌⊗◌, unity}
-use native.Mathlib.Nat as N
 use Rattle.algebra.specs.Sound as Solve
 use Rattle.algebra.specs.Fraction.{Fraction, fractions, zero_fraction, one_fraction, add, add_zero, mul, mul_one, mul_comm, mul_assoc, inverse, mul_inverse, is_zero_fraction}
 use Rattle.algebra.specs.Steps.{product, sum}
@@ -16,6 +15,7 @@ use Rattle.calculus.specs.LocalFunction.{factorial}
 use Rattle.calculus.specs.Rational.{natural_apart}
 use Rattle.calculus.proofs.PolynomialLaws.{constant-one, constant-zero, constant-mul, constant-add}
 use Rattle.calculus.proofs.Linear.{shadow_integral-plus, shadow_integral-scaled}
+use Rattle.calculus.proofs.Nodes.{factorial_positive}
 use Rattle.calculus.proofs.ReferenceIntegrals.{interval_powers, triangle_powers, tetrahedron_powers}
 use Rattle.polyalg.specs.Exponents.{exponent}
 use Rattle.polyalg.specs.Small.{over}
@@ -49,10 +49,6 @@ W_one = add_zero one_fraction
 not_nought : (n : ℕ) → 0 < n → is_zero_fraction (W n) ≡ false
 not_nought zero h = absurd (omega arith)
 not_nought (suc n) h = natural_apart n
-
-factorial_positive : (n : ℕ) → 0 < factorial n
-factorial_positive zero = omega arith
-factorial_positive (suc n) = N.mul-pos (N.zero-lt-suc n) (factorial_positive n)
 
 over_cancel : (m k : ℕ) → 0 < k → mul (over m k) (W k) ≡ W m
 over_cancel m k h =

@@ -10,3 +10,7 @@ pub mod ZeroSum
 pub mod RowLaws
 pub mod ProductLaws
 pub mod Variables
+pub mod SizeLaws
+pub mod BoundLaws
+pub mod DerivedBounds
+pub mod IntegralBounds

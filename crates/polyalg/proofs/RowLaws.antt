@@ -142,7 +142,7 @@ own e f c h =
     coefficient_in-monomial e c f
     ∙ ap (λ b. cond b c zero_fraction) (ap (λ g. powers_eq (powers_of g) (powers_of e)) h ∙ powers_eq_refl (powers_of e))
 
-same_key : (e f : List ℕ) → powers_eq (powers_of f) (powers_of e) ≡ true → key f ≡ key e
+pub same_key : (e f : List ℕ) → powers_eq (powers_of f) (powers_of e) ≡ true → key f ≡ key e
 same_key e f h =
     let p = powers_eq-same (powers_of f) (powers_of e) h in
     let x : exponent f 0 ≡ exponent e 0 = sym (exponent_is f 0) ∙ ap (λ q. power_of q 0) p ∙ exponent_is e 0 in

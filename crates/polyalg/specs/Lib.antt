@@ -5,3 +5,4 @@ pub mod Small
 pub mod ReferenceIntegral
 pub mod Products
 pub mod Row
+pub mod Bounds

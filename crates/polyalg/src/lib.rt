@@ -1,10 +1,11 @@
 //! Polynomials in the coordinates of a reference cell, with exact coefficients.
 //!
 //! A `Poly` is a sorted list of terms with distinct exponents and no zero coefficient. Sums, products, multiples and partial
-//! derivatives are exact, or are refused where a step on coefficients does not fit. `ref_integral` is the integral over the
-//! reference cell.
+//! derivatives are exact, or are refused where a step on coefficients does not fit; `bounds` says when none is. `ref_integral`
+//! is the integral over the reference cell.
 #![tactic(auto)]
 
+pub mod bounds;
 mod fault;
 mod integral;
 mod poly;

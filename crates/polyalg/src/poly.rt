@@ -51,6 +51,7 @@ impl Poly {
     pub fn constant(alloc: Global, c: Ratio) -> Result<Poly, AllocError>
         ensures value { IfOk result (λ p. value_of p ≡ constant_polynomial (fraction_of c)) }
         ensures degree { IfOk result (λ p. degree_of p ≡ 0) }
+        ensures lawful { IfOk result IsPoly }
         ensures variables { (d : ℕ) → IfOk result (VariablesBelow d) }
     {
         single(alloc, [0, 0, 0], c)
@@ -61,6 +62,7 @@ impl Poly {
         requires { k < 3 }
         ensures value { IfOk result (λ p. value_of p ≡ coordinate k) }
         ensures degree { IfOk result (λ p. degree_of p ≤ 1) }
+        ensures lawful { IfOk result IsPoly }
         ensures variables { (d : ℕ) → k < d → IfOk result (VariablesBelow d) }
     {
         let e = match k {
@@ -76,6 +78,7 @@ impl Poly {
         ensures value { IfOk result (λ p. value_of p ≡ plus (value_of self.now) (value_of o.now)) }
         ensures range { RangeWhere (sum_passes self.now o.now) result }
         ensures degree { IfOk result (λ p. degree_of p ≤ max (degree_of self.now) (degree_of o.now)) }
+        ensures lawful { IfOk result IsPoly }
         ensures variables { (d : ℕ) → VariablesBelow d self.now → VariablesBelow d o.now → IfOk result (VariablesBelow d) }
     {
         let terms = merged(alloc, self.terms.as_slice(), o.terms.as_slice())?;
@@ -89,6 +92,7 @@ impl Poly {
         ensures value { IfOk result (λ p. value_of p ≡ times (value_of self.now) (value_of o.now)) }
         ensures range { RangeWhere (is_none (product_steps nil self.now o.now)) result }
         ensures degree { IfOk result (λ p. degree_of p ≤ degree_of self.now + degree_of o.now) }
+        ensures lawful { IfOk result IsPoly }
         ensures variables { (d : ℕ) → VariablesBelow d self.now → VariablesBelow d o.now → IfOk result (VariablesBelow d) }
     {
         let terms = multiplied(alloc, self.terms.as_slice(), o.terms.as_slice())?;
@@ -100,6 +104,7 @@ impl Poly {
         ensures value { IfOk result (λ p. value_of p ≡ times (constant_polynomial (fraction_of c)) (value_of self.now)) }
         ensures range { RangeWhere (product_passes (fraction_of c) self.now) result }
         ensures degree { IfOk result (λ p. degree_of p ≤ degree_of self.now) }
+        ensures lawful { IfOk result IsPoly }
         ensures variables { (d : ℕ) → VariablesBelow d self.now → IfOk result (VariablesBelow d) }
     {
         let terms = scaled(alloc, self.terms.as_slice(), c)?;
@@ -112,6 +117,7 @@ impl Poly {
         ensures value { IfOk result (λ p. value_of p ≡ derivative k (value_of self.now)) }
         ensures range { RangeWhere (derivative_passes k self.now) result }
         ensures degree { IfOk result (λ p. degree_of p ≤ degree_of self.now) }
+        ensures lawful { IfOk result IsPoly }
         ensures variables { (d : ℕ) → VariablesBelow d self.now → IfOk result (VariablesBelow d) }
     {
         let terms = derived(alloc, self.terms.as_slice(), k)?;
@@ -124,6 +130,7 @@ pub fn single(alloc: Global, e: [u32; 3], c: Ratio) -> Result<Poly, AllocError>
     requires { total e ≤ 65535 }
     ensures value { IfOk result (λ p. value_of p ≡ monomial (fraction_of c) e) }
     ensures degree { IfOk result (λ p. degree_of p ≤ total e) }
+    ensures lawful { IfOk result IsPoly }
     ensures variables { (d : ℕ) → ((i : ℕ) → d ≤ i → exponent e i ≡ 0) → IfOk result (VariablesBelow d) }
 {
     let mut terms = Vec::new(alloc);

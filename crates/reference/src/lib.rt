@@ -1,7 +1,7 @@
-//! A plain, slow program beside the definitions of `calculus`: it computes polynomials, volume factors, local functions and integrals
-//! word for word as they are defined, and refuses numbers that do not fit.
+//! A plain, slow program beside the definitions of `calculus`. Wherever it answers, its polynomials, volume factors, local functions
+//! and integrals are those of the definitions, which it computes word for word; where a number doesn't fit, it refuses.
 //!
-//! Nothing else uses it. Its worked numbers show that the definitions say what they should.
+//! No contract says that it answers: its worked numbers show that, and that the definitions say what they should. Nothing else uses it.
 #![tactic(auto)]
 
 mod coordinates;

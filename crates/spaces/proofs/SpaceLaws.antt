@@ -5,7 +5,8 @@ use Rattle.spaces.specs.declared.cell.Cell.{Cell}
 use Rattle.spaces.specs.declared.cell.Cell.TheVariants.{Interval, Triangle, Tetrahedron}
 use Rattle.spaces.specs.declared.family.Family.{Family}
 use Rattle.spaces.specs.declared.family.Family.TheVariants.{Lagrange, Dg, Real}
-use Rattle.spaces.specs.Family.{has_degree, node_count, is_cell}
+use Rattle.spaces.specs.Cell.{same_cell}
+use Rattle.spaces.specs.Family.{has_degree, node_count}
 use Rattle.spaces.specs.Scalar.{Scalar, scalar_of, repeated, local_size, appended, laid_out}
 use Rattle.spaces.specs.Space.{Space, scalar, vector, tensor, mixed, Spaces, no_spaces, space, scalars, scalars_of, is_scalar, depth_of, greatest_depth, cell_of, first_cell, same_cells, IsLawful, AreLawful}
 use Rattle.spaces.specs.Sound.{Describes}
@@ -116,10 +117,10 @@ described_tensor s m n cell depth own flat d h =
       shallow = lit≤ tt;
     }
 
-same_cell : (c : Cell) → is_cell c c ≡ true
-same_cell Interval = refl
-same_cell Triangle = refl
-same_cell Tetrahedron = refl
+pub same_cell_itself : (c : Cell) → same_cell c c ≡ true
+same_cell_itself Interval = refl
+same_cell_itself Triangle = refl
+same_cell_itself Tetrahedron = refl
 
 -- what a list of elements that isn't refused is
 pub cell_given : (ss : Spaces) (c : Cell) → common_cell ss ≡ Ok c → AreLawful ss
@@ -127,8 +128,8 @@ pub cell_given : (ss : Spaces) (c : Cell) → common_cell ss ≡ Ok c → AreLaw
 cell_given no_spaces c e h = cc
 cell_given (space s ss) c e h = go (same_cells (cell_of s) ss) refl e where
   go : (x : Bool) → same_cells (cell_of s) ss ≡ x → (if x then Ok (cell_of s) else Err Kind) ≡ Ok c
-      → (c ≡ cell_of s) × ((is_cell (cell_of s) (cell_of s) && same_cells (cell_of s) ss) ≡ true) × (0 < length (scalars s ++ scalars_of ss))
-  go true t e = (cc, ap₂ (λ x y. x && y) (same_cell (cell_of s)) t, omega (arith, length-append (scalars s) (scalars_of ss), lawful_some s h.0))
+      → (c ≡ cell_of s) × ((same_cell (cell_of s) (cell_of s) && same_cells (cell_of s) ss) ≡ true) × (0 < length (scalars s ++ scalars_of ss))
+  go true t e = (cc, ap₂ (λ x y. x && y) (same_cell_itself (cell_of s)) t, omega (arith, length-append (scalars s) (scalars_of ss), lawful_some s h.0))
   go false t e = cc
 
 pub depth_given : (ss : Spaces) (d : ℕ) → common_depth ss ≡ Ok d

@@ -1,5 +1,5 @@
--- The dimension and the name of a cell
-use Rattle.std.specs.Prelude.{ℕ, List, codes}
+-- The dimension and the name of a cell, and equal cells
+use Rattle.std.specs.Prelude.{ℕ, Bool, true, false, List, codes}
 use Rattle.spaces.specs.declared.cell.Cell.{Cell}
 use Rattle.spaces.specs.declared.cell.Cell.TheVariants.{Interval, Triangle, Tetrahedron}
 
@@ -14,3 +14,9 @@ abbrev pub cell_name : Cell → List ℕ
 cell_name Interval = codes "interval"
 cell_name Triangle = codes "triangle"
 cell_name Tetrahedron = codes "tetrahedron"
+
+abbrev pub same_cell : Cell → Cell → Bool
+same_cell Interval Interval = true
+same_cell Triangle Triangle = true
+same_cell Tetrahedron Tetrahedron = true
+same_cell _ _ = false

@@ -1,5 +1,5 @@
 -- Which degrees a family has, and how many local nodes an element has
-use Rattle.std.specs.Prelude.{ℕ, ◌+◌, ◌*◌, ◌/◌, Bool, true, false, ◌==◌, ◌&&◌, nat_le}
+use Rattle.std.specs.Prelude.{ℕ, ◌+◌, ◌*◌, ◌/◌, Bool, ◌==◌, ◌&&◌, nat_le}
 use Rattle.spaces.specs.declared.cell.Cell.{Cell}
 use Rattle.spaces.specs.declared.cell.Cell.TheVariants.{Interval, Triangle, Tetrahedron}
 use Rattle.spaces.specs.declared.family.Family.{Family}
@@ -15,14 +15,3 @@ abbrev pub node_count : Cell → ℕ → ℕ
 node_count Interval q = q + 1
 node_count Triangle q = (q + 1) * (q + 2) / 2
 node_count Tetrahedron q = (q + 1) * (q + 2) * (q + 3) / 6
-
-abbrev pub is_cell : Cell → Cell → Bool
-is_cell Interval Interval = true
-is_cell Interval Triangle = false
-is_cell Interval Tetrahedron = false
-is_cell Triangle Interval = false
-is_cell Triangle Triangle = true
-is_cell Triangle Tetrahedron = false
-is_cell Tetrahedron Interval = false
-is_cell Tetrahedron Triangle = false
-is_cell Tetrahedron Tetrahedron = true

@@ -7,3 +7,5 @@ pub mod Flat
 pub mod Refusal
 pub mod Sound
 pub mod Single
+pub mod Equality
+pub mod Nodes

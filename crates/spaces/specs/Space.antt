@@ -3,7 +3,8 @@ use Rattle.std.specs.Prelude.{◌≡◌, ℕ, ◌+◌, ◌*◌, ◌<◌, ◌≤�
 use Rattle.spaces.specs.declared.cell.Cell.{Cell}
 use Rattle.spaces.specs.declared.cell.Cell.TheVariants.{Interval}
 use Rattle.spaces.specs.declared.family.Family.{Family}
-use Rattle.spaces.specs.Family.{has_degree, node_count, is_cell}
+use Rattle.spaces.specs.Family.{has_degree, node_count}
+use Rattle.spaces.specs.Cell.{same_cell}
 use Rattle.spaces.specs.Scalar.{Scalar, repeated}
 
 mutual
@@ -62,7 +63,7 @@ is_scalar (mixed ss) = false
 -- each element of a list is on this cell
 abbrev pub same_cells : Cell → Spaces → Bool
 same_cells c no_spaces = true
-same_cells c (space s ss) = is_cell (cell_of s) c && same_cells c ss
+same_cells c (space s ss) = same_cell (cell_of s) c && same_cells c ss
 
 -- what every `Element` keeps
 abbrev mutual

@@ -166,3 +166,68 @@ fn parts_of_a_tensor_and_of_a_constant(rt: HostRuntime) -> Result<(), Fail> {
     assert_eq!(rt; constant.value_size(), 1);
     Ok(())
 }
+
+/// How many nodes the degrees 0 to 3 have.
+const COUNTS: [(Cell, [usize; 4]); 3] = [
+    (Cell::Interval, [1, 2, 3, 4]),
+    (Cell::Triangle, [1, 3, 6, 10]),
+    (Cell::Tetrahedron, [1, 4, 10, 20]),
+];
+
+#[test]
+fn nodes_in_order(rt: HostRuntime) -> Result<(), Fail> {
+    let lists: [(Cell, u8, &[[u8; 4]]); 4] = [
+        (Cell::Tetrahedron, 0, &[[0, 0, 0, 0]]),
+        (
+            Cell::Interval,
+            3,
+            &[[3, 0, 0, 0], [0, 3, 0, 0], [1, 2, 0, 0], [2, 1, 0, 0]],
+        ),
+        (
+            Cell::Triangle,
+            3,
+            &[
+                [3, 0, 0, 0],
+                [0, 3, 0, 0],
+                [0, 0, 3, 0],
+                [1, 2, 0, 0],
+                [2, 1, 0, 0],
+                [1, 0, 2, 0],
+                [2, 0, 1, 0],
+                [0, 1, 2, 0],
+                [0, 2, 1, 0],
+                [1, 1, 1, 0],
+            ],
+        ),
+        (
+            Cell::Tetrahedron,
+            2,
+            &[
+                [2, 0, 0, 0],
+                [0, 2, 0, 0],
+                [0, 0, 2, 0],
+                [0, 0, 0, 2],
+                [1, 1, 0, 0],
+                [1, 0, 1, 0],
+                [1, 0, 0, 1],
+                [0, 1, 1, 0],
+                [0, 1, 0, 1],
+                [0, 0, 1, 1],
+            ],
+        ),
+    ];
+    for (cell, degree, wanted) in &lists {
+        assert!(rt; *degree <= 3);
+        assert!(rt;
+            nodes(rt.alloc(), *cell, *degree)?.as_slice() == *wanted,
+            "{cell:?} {degree}"
+        );
+    }
+    for (cell, counts) in COUNTS {
+        for degree in 0..4u8 {
+            let listed = nodes(rt.alloc(), cell, degree)?.len();
+            assert!(rt; listed == counts[degree as usize], "{cell:?} {degree}");
+        }
+    }
+    Ok(())
+}

@@ -4,11 +4,18 @@ use Rattle.calculus.proofs.Barycentric.{basis_coordinate}
 use Rattle.calculus.proofs.LocalFunctions.{factors_of}
 use Rattle.polyalg.specs.Terms.{value_of}
 use Rattle.polyalg.specs.ReferenceIntegral.{VariablesBelow}
-use Rattle.lagrange.specs.Nodes.{nodes_of}
-use Rattle.lagrange.proofs.NodeLaws.{table_length, node_at, entry_at, padded_sum, padded_four, basis_is}
+use Rattle.spaces.specs.Nodes.{nodes_of}
+use Rattle.spaces.proofs.NodeLaws.{table_length, node_at, entry_at, padded_sum, padded_four}
+use Rattle.lagrange.proofs.NodeLaws.{basis_is}
 use Rattle.calculus.specs.Simplex.{reference}
 use Rattle.spaces.specs.Cell.{dimension}
 use Rattle.lagrange.proofs.NodeValues.{own_value, other_value}
+use Rattle.calculus.specs.LocalFunction.{factorial}
+use Rattle.polyalg.proofs.SizeLaws.{size_at}
+use Rattle.polyalg.proofs.BoundLaws.{bounded}
+use Rattle.lagrange.specs.Bounds.{basis_bound}
+use Rattle.spaces.proofs.NodeLaws.{dimension_range}
+use Rattle.lagrange.proofs.Sizes.{basis_size}
 use Rattle.lagrange.proofs.functions.basis.Goals as goal
 
 pub bounds-weights-node : goal.bounds-weights-node
@@ -54,3 +61,12 @@ returns-in-Ok-clause-degree c = omega (arith, c.in-Ok.ensures.degree, weights_ad
 
 pub returns-in-Ok-clause-variables : goal.returns-in-Ok-clause-variables
 returns-in-Ok-clause-variables c = subst (λ d. VariablesBelow d c.in-Ok.function) c.dim.ensures c.in-Ok.ensures.variables
+
+pub returns-in-Ok-clause-bounds : goal.returns-in-Ok-clause-bounds
+returns-in-Ok-clause-bounds c =
+    bounded (factorial c.args.degree) (basis_bound c.args.degree) c.in-Ok.function c.in-Ok.ensures.lawful
+    (size_at (factorial c.args.degree) (basis_bound c.args.degree) _ _ c.in-Ok.ensures.value
+    (basis_size c.args.degree c.dim.result (get_or c.weights.result.now c.args.node []) c.requires.degree (omega (arith, (dimension_range c.args.cell).1, c.dim.ensures))
+    (ap length (entry_at c.args.cell c.args.degree c.args.node c.weights.result.now [] c.requires.degree c.requires.node c.weights.ensures)
+    ∙ padded_four c.args.cell c.args.degree (get_or (nodes_of c.args.cell c.args.degree) c.args.node []) (node_at c.args.cell c.args.degree c.args.node c.requires.degree c.requires.node))
+    (weights_add c)))

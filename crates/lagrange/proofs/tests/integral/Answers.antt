@@ -1,7 +1,7 @@
 use Rattle.std.proofs.Common.{◌≤◌, sym, subst}
 use Rattle.polyalg.specs.ReferenceIntegral.{VariablesBelow}
 use Rattle.spaces.specs.Cell.{dimension}
-use Rattle.lagrange.proofs.NodeLaws.{dimension_range}
+use Rattle.spaces.proofs.NodeLaws.{dimension_range}
 use Rattle.lagrange.proofs.tests.integral.Goals as goal
 
 pub ref_integral-requires-clause-dimension : goal.ref_integral-requires-clause-dimension

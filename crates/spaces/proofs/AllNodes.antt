@@ -1,12 +1,10 @@
 -- The nodes are all lists of weights with the sum q, each once, in order
 use Rattle.std.proofs.Common.{◌≡◌, ℕ, zero, suc, ◌+◌, ◌<◌, ◌≤◌, ◌⊎◌, inl, inr, Bool, true, false, if◌then◌else◌, List, [], ◌∷◌, ◌++◌, length, get_or, refl, sym, ap, subst, arith}
-use Rattle.calculus.specs.LocalFunction.{degree_of}
 use Rattle.spaces.specs.declared.cell.Cell.{Cell}
 use Rattle.spaces.specs.declared.cell.Cell.TheVariants.{Interval, Triangle, Tetrahedron}
 use Rattle.spaces.specs.Cell.{dimension}
-use Rattle.lagrange.specs.Nodes.{each_with, with_first, choices, rank, is_before, put, in_order, nodes_of}
-use Rattle.lagrange.specs.Sums.{in_strict_order}
-use Rattle.lagrange.proofs.NodeLaws.{by_degree, node_number, node_at}
+use Rattle.spaces.specs.Nodes.{weight_sum, each_with, with_first, choices, rank, is_before, put, in_order, nodes_of, in_strict_order}
+use Rattle.spaces.proofs.NodeLaws.{by_degree, node_number, node_at}
 
 -- ---- each list of weights is among the choices
 abbrev Among : List ℕ → List (List ℕ) → Type 0
@@ -43,12 +41,12 @@ among_first rest w (suc m) c a b e h i = elim (same_or_less a m h) [
   | inr l ↦ among_right (a ∷ w) (each_with (suc m) (rest c)) (with_first rest m (suc c)) (among_first rest w m (suc c) a b (omega arith) l i)
 ]
 
-among_choices : (n k : ℕ) (w : List ℕ) → length w ≡ n → degree_of w ≡ k → Among w (choices n k)
+among_choices : (n k : ℕ) (w : List ℕ) → length w ≡ n → weight_sum w ≡ k → Among w (choices n k)
 among_choices zero zero [] l e = inl refl
 among_choices zero (suc k) [] l e = absurd (omega (arith, e))
 among_choices zero k (a ∷ w) l e = absurd (omega (arith, l))
 among_choices (suc n) k [] l e = absurd (omega (arith, l))
-among_choices (suc n) k (a ∷ w) l e = among_first (λ b. choices n b) w k 0 a (degree_of w) (omega (arith, e)) (omega (arith, e)) (among_choices n (degree_of w) w (omega (arith, l)) refl)
+among_choices (suc n) k (a ∷ w) l e = among_first (λ b. choices n b) w k 0 a (weight_sum w) (omega (arith, e)) (omega (arith, e)) (among_choices n (weight_sum w) w (omega (arith, l)) refl)
 
 -- ---- and sorting keeps it
 among_put : (u w : List ℕ) (vs : List (List ℕ)) → (w ≡ u) ⊎ Among u vs → Among u (put w vs)
@@ -71,11 +69,11 @@ place_of w [] h = absurd h
 place_of w (v ∷ vs) (inl e) = (0, omega arith, e)
 place_of w (v ∷ vs) (inr h) = let p = place_of w vs h in (suc p.0, omega (arith, p.1), p.2)
 
-pub complete : (c : Cell) (q : ℕ) (w : List ℕ) → length w ≡ suc (dimension c) → degree_of w ≡ q → (k : ℕ) × (k < length (nodes_of c q)) × (get_or (nodes_of c q) k [] ≡ w)
+pub complete : (c : Cell) (q : ℕ) (w : List ℕ) → length w ≡ suc (dimension c) → weight_sum w ≡ q → (k : ℕ) × (k < length (nodes_of c q)) × (get_or (nodes_of c q) k [] ≡ w)
 complete c q w l e = place_of w (nodes_of c q) (among_in_order w (choices (suc (dimension c)) q) (among_choices (suc (dimension c)) q w l e))
 
 pub sound : (c : Cell) (q : ℕ) → q ≤ 3 → (k : ℕ) → k < length (nodes_of c q)
-    → (length (get_or (nodes_of c q) k []) ≡ suc (dimension c)) × (degree_of (get_or (nodes_of c q) k []) ≡ q)
+    → (length (get_or (nodes_of c q) k []) ≡ suc (dimension c)) × (weight_sum (get_or (nodes_of c q) k []) ≡ q)
 sound c q h k g = let n = node_at c q k h (omega (arith, node_number c q h)) in (n.vertices, n.sum)
 
 pub strict_order : (c : Cell) (q : ℕ) → q ≤ 3 → in_strict_order (nodes_of c q) ≡ true

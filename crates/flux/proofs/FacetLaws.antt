@@ -12,7 +12,7 @@ use Rattle.calculus.specs.Integral.{shadow, height, lowered, over_shadow, facet_
 use Rattle.calculus.proofs.PolynomialLaws.{constant-one, constant-zero, constant-add, constant-negative, composed-plus, composed-times, composed-constant, composed-coordinate, composed-nil, composed-composed, composed-same}
 use Rattle.calculus.proofs.Barycentric.{basis_coordinate_of}
 use Rattle.calculus.proofs.ChangeOfVariables.{interval_law, triangle_law}
-use Rattle.pullback.specs.Facet.{along, pulled_back_facet}
+use Rattle.flux.specs.Facet.{along, pulled_back_facet}
 
 less : (a b : Fraction) → constant (add b (minus_fraction a)) ≡ minus (constant b) (constant a)
 less a b = constant-add b (minus_fraction a) ∙ ap (plus (constant b)) (constant-negative a)

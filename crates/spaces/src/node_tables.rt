@@ -2,9 +2,9 @@
 
 ghost use Rattle.std.specs.Prelude.{◌≡◌, ◌≤◌, map, IfOk};
 ghost use Rattle.spaces.specs.declared.cell.Cell.TheVariants.{Interval, Triangle, Tetrahedron};
-ghost use Rattle.lagrange.specs.Nodes.{nodes_of, padded};
+ghost use Rattle.spaces.specs.Nodes.{nodes_of, padded};
 
-use spaces::Cell;
+use crate::cell::Cell;
 use std::alloc::{AllocError, Global};
 
 /// The one node of degree 0.

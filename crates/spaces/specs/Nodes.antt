@@ -1,7 +1,12 @@
 -- The local nodes of an element of degree q: all lists of weights, one for each vertex, that add up to q, in order
-use Rattle.std.specs.Prelude.{ℕ, zero, suc, ◌-◌, Bool, true, false, ◌&&◌, ◌||◌, ◌==◌, nat_lt, if◌then◌else◌, List, [], ◌∷◌, ◌++◌, length}
+use Rattle.std.specs.Prelude.{ℕ, zero, suc, ◌+◌, ◌-◌, Bool, true, false, ◌&&◌, ◌||◌, ◌==◌, nat_lt, if◌then◌else◌, List, [], ◌∷◌, ◌++◌, length}
 use Rattle.spaces.specs.declared.cell.Cell.{Cell}
 use Rattle.spaces.specs.Cell.{dimension}
+
+-- the degree of a node
+abbrev pub weight_sum : List ℕ → ℕ
+weight_sum [] = 0
+weight_sum (a ∷ weights) = a + weight_sum weights
 
 abbrev pub each_with : ℕ → List (List ℕ) → List (List ℕ)
 each_with a [] = []
@@ -56,3 +61,19 @@ zeros (suc n) = 0 ∷ zeros n
 -- four weights, with 0 behind the vertices of the cell
 abbrev pub padded : List ℕ → List ℕ
 padded w = w ++ zeros (4 - length w)
+
+-- the first place where two lists differ decides
+abbrev pub comes_before : List ℕ → List ℕ → Bool
+comes_before [] [] = false
+comes_before [] (y ∷ ys) = true
+comes_before (x ∷ xs) [] = false
+comes_before (x ∷ xs) (y ∷ ys) = nat_lt x y || (x == y && comes_before xs ys)
+
+abbrev pub before_all : List ℕ → List (List ℕ) → Bool
+before_all w [] = true
+before_all w (v ∷ vs) = comes_before (rank w) (rank v) && before_all w vs
+
+-- each node comes before all behind it, so none stands twice
+abbrev pub in_strict_order : List (List ℕ) → Bool
+in_strict_order [] = true
+in_strict_order (w ∷ ws) = before_all w ws && in_strict_order ws

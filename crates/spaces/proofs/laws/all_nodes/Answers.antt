@@ -1,5 +1,5 @@
-use Rattle.lagrange.proofs.AllNodes.{complete, sound, strict_order}
-use Rattle.lagrange.proofs.laws.all_nodes.Goals as goal
+use Rattle.spaces.proofs.AllNodes.{complete, sound, strict_order}
+use Rattle.spaces.proofs.laws.all_nodes.Goals as goal
 
 pub returns-clause-complete : goal.returns-clause-complete
 returns-clause-complete c = complete

@@ -8,7 +8,7 @@ ghost use Rattle.algebra.specs.Fraction.{Fraction};
 ghost use Rattle.calculus.specs.Point.{Point};
 ghost use Rattle.calculus.specs.Polynomial.{Polynomial};
 ghost use Rattle.calculus.specs.Integral.{signed, facet_of, part};
-ghost use Rattle.pullback.specs.Facet.{pulled_back_facet};
+ghost use Rattle.flux.specs.Facet.{pulled_back_facet};
 
 /// The part of facet k in direction i is, with its sign, the volume factor of the facet's shadow in that direction times the
 /// integral over the reference facet of the polynomial along the facet. It holds for flat shadows too, where both sides are 0.

@@ -1,5 +1,5 @@
-use Rattle.pullback.proofs.FacetLaws.{interval_facets, triangle_facets, tetrahedron_facets}
-use Rattle.pullback.proofs.facets.Goals as goal
+use Rattle.flux.proofs.FacetLaws.{interval_facets, triangle_facets, tetrahedron_facets}
+use Rattle.flux.proofs.facets.Goals as goal
 
 pub returns-clause-interval : goal.returns-clause-interval
 returns-clause-interval c = interval_facets
