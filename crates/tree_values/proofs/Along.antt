@@ -2,7 +2,7 @@
 use Rattle.std.proofs.Common.{◌≡◌, ℕ, zero, suc, refl, sym}
 use Rattle.calculus.specs.Polynomial.{Polynomial, nil, plus, plus-nil}
 use Rattle.calculus.proofs.PolynomialLaws.{derivative-plus}
-use Rattle.ufl_tree.specs.Operators.{along}
+use Rattle.ufl_meaning.specs.Operators.{along}
 
 pub along-plus : (i : ℕ) (p q : Polynomial) → along i (plus p q) ≡ plus (along i p) (along i q)
 along-plus zero p q = derivative-plus 0 p q

@@ -4,7 +4,8 @@ use Rattle.std.proofs.lemmas.List.{take_all}
 use Rattle.algebra.specs.RingLaws as L
 use Rattle.calculus.specs.Polynomial.{polynomials, plus, plus_assoc, plus-nil}
 use Rattle.ufl_tree.specs.Indices.{front, back, followed_by}
-use Rattle.ufl_tree.specs.Operators.{Components, sum_below, sum_components}
+use Rattle.calculus.specs.Integral.{sum_below}
+use Rattle.ufl_meaning.specs.Operators.{Components, sum_components}
 use Rattle.tree_values.specs.Scene.{gathered}
 use Rattle.tree_values.specs.Component.{listed, sum_at}
 use Rattle.tree_values.proofs.SceneLaws.{next, sum_same}

@@ -10,3 +10,5 @@ pub mod SpotLaws
 pub mod OperandLaws
 pub mod ValueLaws
 pub mod PieceLaws
+pub mod MeaningLaws
+pub mod DensityLaws

@@ -165,3 +165,39 @@ no_parameter (suc (suc zero)) c x y z r s t h₀ h₁ h₂ = absurd (h₂ refl)
 no_parameter (suc (suc (suc k))) c x y z r s t h₀ h₁ h₂ =
     let six : 3 + suc (suc (suc k)) ≡ suc (suc (suc (suc (suc (suc k))))) = omega arith in
     absent_part (3 + suc (suc (suc k))) c (powers x y z r s t) (ap (λ n. get_or (powers x y z r s t) n 0) six)
+
+-- ---- the coefficient of power 0 of a variable
+pub constant_part : (n : ℕ) (c : Fraction) (es : List ℕ) → get_or es n 0 ≡ 0 → coefficient_of n 0 (monomial c es) ≡ monomial c es
+constant_part n c es h =
+    sym (ap (coefficient_of n 0) (ap (plus (monomial c es)) (L.mul-zero polynomials (coordinate n)) ∙ plus-nil _))
+    ∙ coefficient_zero_line n (monomial c es) nil (free_term n c es h)
+
+abbrev cleared : ℕ → List ℕ → List ℕ
+cleared n [] = []
+cleared zero (e ∷ es) = 0 ∷ es
+cleared (suc n) (e ∷ es) = e ∷ cleared n es
+
+split_off : (n m : ℕ) (es : List ℕ) → get_or es n 0 ≡ m → (j : ℕ) → get_or es j 0 ≡ get_or (cleared n es) j 0 + m * delta n j
+split_off zero m [] h zero = omega (arith, h)
+split_off zero m [] h (suc j) = omega arith
+split_off (suc n) m [] h zero = omega arith
+split_off (suc n) m [] h (suc j) = split_off n m [] h j
+split_off zero m (e ∷ es) h zero = omega (arith, h)
+split_off zero m (e ∷ es) h (suc j) = omega arith
+split_off (suc n) m (e ∷ es) h zero = omega arith
+split_off (suc n) m (e ∷ es) h (suc j) = split_off n m es h j
+
+pub no_constant_part : (n m : ℕ) (c : Fraction) (es : List ℕ) → get_or es n 0 ≡ m → ((m ≡ 0) → ⊥) → coefficient_of n 0 (monomial c es) ≡ nil
+no_constant_part n zero c es h positive = absurd (positive refl)
+no_constant_part n (suc m) c es h positive =
+    ap (coefficient_of n 0) (monomial-split n (suc m) c es (cleared n es) (split_off n (suc m) es h))
+    ∙ coefficient_zero-times n _ _
+    ∙ ap (times (coefficient_of n 0 (monomial c (cleared n es)))) (zero_of_power n m) ∙ L.mul-zero polynomials _
+
+pub no_power : (k : ℕ) (x y z r s t : ℕ) → ((k ≡ 0) → ⊥) → ((k ≡ 1) → ⊥) → ((k ≡ 2) → ⊥) → 0 ≡ get_or (powers x y z r s t) (3 + k) 0
+no_power zero x y z r s t h₀ h₁ h₂ = absurd (h₀ refl)
+no_power (suc zero) x y z r s t h₀ h₁ h₂ = absurd (h₁ refl)
+no_power (suc (suc zero)) x y z r s t h₀ h₁ h₂ = absurd (h₂ refl)
+no_power (suc (suc (suc k))) x y z r s t h₀ h₁ h₂ =
+    let six : 3 + suc (suc (suc k)) ≡ suc (suc (suc (suc (suc (suc k))))) = omega arith in
+    sym (ap (λ n. get_or (powers x y z r s t) n 0) six)

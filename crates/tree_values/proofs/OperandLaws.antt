@@ -5,7 +5,8 @@ use Rattle.calculus.specs.Polynomial.{Polynomial, polynomials, plus, minus, time
 use Rattle.ufl_tree.specs.declared.tree.Op2.{Op2}
 use Rattle.ufl_tree.specs.declared.tree.Op2.TheVariants.{Product, Inner}
 use Rattle.ufl_tree.specs.Indices.{front, back, followed_by, last_size}
-use Rattle.ufl_tree.specs.Operators.{Components, sum_below, sum_components, two_value, dot_value}
+use Rattle.calculus.specs.Integral.{sum_below}
+use Rattle.ufl_meaning.specs.Operators.{Components, sum_components, two_value, dot_value}
 use Rattle.tree_values.specs.Scene.{gathered}
 use Rattle.tree_values.specs.Component.{listed, sum_at}
 use Rattle.tree_values.specs.Operands.{products_of, total_of, turned_of, combination, turned_difference, Combines, CombinesDot, CombinesTurned}

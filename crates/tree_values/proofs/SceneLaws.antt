@@ -1,17 +1,21 @@
 -- Names and environments, one step further
-use Rattle.std.proofs.Common.{◌≡◌, ℕ, zero, suc, ◌+◌, ◌<◌, refl, sym, ◌∙◌, ap, ap₂, List, [], ◌∷◌, ◌++◌, length, take, get_or, if◌then◌else◌, add-one, ◌==◌, ◌&&◌, arith, length-take-le, IfOk, Result, Ok, Err}
+use Rattle.std.proofs.Common.{◌≡◌, ℕ, zero, suc, ◌+◌, ◌<◌, ◌≤◌, refl, sym, ◌∙◌, ap, ap₂, List, [], ◌∷◌, ◌++◌, length, take, get_or, if◌then◌else◌, add-one, ◌==◌, ◌&&◌, Bool, true, false, arith, IfOk, Result, Ok, Err}
 use Rattle.std.proofs.lemmas.Grind.{take_at_read}
-use Rattle.calculus.specs.Polynomial.{Polynomial, polynomials, plus, plus_assoc, plus-nil}
+use Rattle.std.proofs.lemmas.List.{take_all}
+use Rattle.calculus.specs.Polynomial.{Polynomial, polynomials, plus, times, plus_assoc, plus-nil}
 use Rattle.algebra.specs.RingLaws as L
 use Rattle.ufl_tree.specs.declared.function.Free.{Free}
 use Rattle.ufl_tree.specs.declared.function.Ix.{Ix}
+use Rattle.ufl_tree.specs.declared.function.Role.{Role}
 use Rattle.ufl_tree.specs.Indices.{Names, with_name, with_names, index_value, index_values}
-use Rattle.ufl_tree.specs.Environment.{Environment, raised, parameter, same_list}
-use Rattle.ufl_tree.specs.Operators.{sum_below, sum_names}
-use Rattle.tree_values.specs.declared.scene.Given.{Given}
-use Rattle.tree_values.specs.declared.scene.Raised.{Raised}
+use Rattle.ufl_meaning.specs.Environment.{Environment, parameter, same_role, same_list}
+use Rattle.calculus.specs.Integral.{sum_below}
+use Rattle.ufl_meaning.specs.Operators.{sum_names}
+use Rattle.tree_values.specs.declared.environment.Given.{Given}
+use Rattle.tree_values.specs.declared.environment.Change.{Change}
+use Rattle.tree_values.specs.declared.environment.Change.TheVariants.{Raised, Turned, Scaled, Replaced, Exchanged}
 use Rattle.tree_values.specs.declared.scene.Bound.{Bound}
-use Rattle.tree_values.specs.Scene.{names_after, names_of, gathered, assigned, sum_over, at_rest, raised_all, environment_of}
+use Rattle.tree_values.specs.Scene.{names_after, names_of, gathered, assigned, sum_over, at_rest, changed, changed_all, environment_of, parameters_of}
 
 pub next : {A : Type 0} (xs : List A) (i : ℕ) (x : A) → i < length xs → x ≡ get_or xs i x → take (i + 1) xs ≡ take i xs ++ x ∷ []
 next xs i x h e = (take_at_read xs i x h).1 ∙ ap (λ y. take i xs ++ y ∷ []) (sym e)
@@ -59,30 +63,66 @@ sum_over-assigned (x ∷ xs) bs f =
     ∙ sum_same x.dim _ _ (λ k. sum_over-assigned xs (bs ++ record { index = x.index; value = k } ∷ []) f ∙ ap (sum_names xs f) (names_of-push bs (record { index = x.index; value = k })))
 
 -- ---- environments
-raised_all-push : (env : Environment) (rs : List Raised) (r : Raised) → raised_all env (rs ++ r ∷ []) ≡ raised r.label r.at (raised_all env rs)
-raised_all-push env [] r = refl
-raised_all-push env (s ∷ rs) r = raised_all-push (raised s.label s.at env) rs r
+changed_all-push : (env : Environment) (cs : List Change) (c : Change) → changed_all env (cs ++ c ∷ []) ≡ changed c (changed_all env cs)
+changed_all-push env [] c = refl
+changed_all-push env (d ∷ cs) c = changed_all-push (changed d env) cs c
 
-pub environment_of-push : (gs : List Given) (rs : List Raised) (r : Raised) → environment_of gs (rs ++ r ∷ []) ≡ raised r.label r.at (environment_of gs rs)
-environment_of-push gs rs r = raised_all-push (at_rest gs) rs r
+pub environment_of-push : (gs : List Given) (cs : List Change) (c : Change) → environment_of gs (cs ++ c ∷ []) ≡ changed c (environment_of gs cs)
+environment_of-push gs cs c = changed_all-push (at_rest gs) cs c
 
-pub environment_of-next : (gs : List Given) (rs : List Raised) (i : ℕ) (r : Raised) → i < length rs → r ≡ get_or rs i r
-    → environment_of gs (take (i + 1) rs) ≡ raised r.label r.at (environment_of gs (take i rs))
-environment_of-next gs rs i r h e = ap (environment_of gs) (next rs i r h e) ∙ environment_of-push gs (take i rs) r
+-- the last change, after those before it
+pub under : (gs : List Given) (cs before : List Change) (c d : Change) → cs ≡ before ++ c ∷ [] → c ≡ d → changed d (environment_of gs before) ≡ environment_of gs cs
+under gs cs before c d h e = sym (ap (environment_of gs) h ∙ environment_of-push gs before c ∙ ap (λ x. changed x (environment_of gs before)) e)
 
-raised_all-value : (env : Environment) (rs : List Raised) → (raised_all env rs).value ≡ env.value
-raised_all-value env [] = refl
-raised_all-value env (r ∷ rs) = raised_all-value (raised r.label r.at env) rs
+used-changed : (c : Change) (env : Environment) → (changed c env).used ≡ env.used + parameters_of c
+used-changed (Raised l b) env = omega arith
+used-changed (Turned w d) env = omega arith
+used-changed (Scaled w) env = omega arith
+used-changed (Replaced w f) env = omega arith
+used-changed Exchanged env = omega arith
 
-pub environment_of-value : (gs : List Given) (rs : List Raised) → (environment_of gs rs).value ≡ (at_rest gs).value
-environment_of-value gs rs = raised_all-value (at_rest gs) rs
+pub used_after : (gs : List Given) (cs before : List Change) (c : Change) (m n : ℕ) → cs ≡ before ++ c ∷ [] → m ≡ (environment_of gs before).used → n ≡ parameters_of c
+    → m + n ≡ (environment_of gs cs).used
+used_after gs cs before c m n h was is = ap₂ ◌+◌ was is ∙ sym (used-changed c (environment_of gs before)) ∙ ap (λ env. env.used) (under gs cs before c c h refl)
 
-raised_all-used : (env : Environment) (rs : List Raised) → (raised_all env rs).used ≡ length rs + env.used
-raised_all-used env [] = omega arith
-raised_all-used env (r ∷ rs) = omega (arith, raised_all-used (raised r.label r.at env) rs)
+-- ---- what the changes of functions and variables do
+pub turned_value : (gs : List Given) (cs before : List Change) (c : Change) (w d r : Role) (i : ℕ) (is : Bool) (k : ℕ) (own slope : Polynomial) → cs ≡ before ++ c ∷ [] → c ≡ Turned w d
+    → is ≡ same_role r w → k ≡ (environment_of gs before).used → own ≡ (environment_of gs before).value r i → slope ≡ (environment_of gs before).value d i
+    → (if is then plus own (times (parameter k) slope) else own) ≡ (environment_of gs cs).value r i
+turned_value gs cs before c w d r i is k own slope h e hi hk ho hs =
+    ap₂ (λ b n. if b then plus own (times (parameter n) slope) else own) hi hk
+    ∙ ap₂ (λ p q. if same_role r w then plus p (times (parameter (environment_of gs before).used) q) else p) ho hs
+    ∙ ap (λ (env : Environment). env.value r i) (under gs cs before c (Turned w d) h e)
 
-pub environment_of-used : (gs : List Given) (rs : List Raised) → (environment_of gs rs).used ≡ length rs
-environment_of-used gs rs = omega (arith, raised_all-used (at_rest gs) rs)
+pub scaled_value : (gs : List Given) (cs before : List Change) (c : Change) (w r : Role) (i : ℕ) (is : Bool) (k : ℕ) (own : Polynomial) → cs ≡ before ++ c ∷ [] → c ≡ Scaled w
+    → is ≡ same_role r w → k ≡ (environment_of gs before).used → own ≡ (environment_of gs before).value r i
+    → (if is then times (parameter k) own else own) ≡ (environment_of gs cs).value r i
+scaled_value gs cs before c w r i is k own h e hi hk ho =
+    ap₂ (λ b n. if b then times (parameter n) own else own) hi hk
+    ∙ ap (λ p. if same_role r w then times (parameter (environment_of gs before).used) p else p) ho
+    ∙ ap (λ (env : Environment). env.value r i) (under gs cs before c (Scaled w) h e)
+
+pub replaced_value : (gs : List Given) (cs before : List Change) (c : Change) (w f r s : Role) (i : ℕ) (is : Bool) → cs ≡ before ++ c ∷ [] → c ≡ Replaced w f
+    → is ≡ same_role r w → s ≡ (if is then f else r) → (environment_of gs before).value s i ≡ (environment_of gs cs).value r i
+replaced_value gs cs before c w f r s i is h e hi hs =
+    ap (λ x. (environment_of gs before).value x i) (hs ∙ ap (λ b. if b then f else r) hi)
+    ∙ go (same_role r w)
+    ∙ ap (λ (env : Environment). env.value r i) (under gs cs before c (Replaced w f) h e)
+  where
+    go : (b : Bool) → (environment_of gs before).value (if b then f else r) i ≡ (if b then (environment_of gs before).value f i else (environment_of gs before).value r i)
+    go true = refl
+    go false = refl
+
+pub offset_moved : (gs : List Given) (cs before : List Change) (c : Change) (l : ℕ) (b : List ℕ) (label : ℕ) (at slice : List ℕ) (own : Polynomial) (is : Bool) (k : ℕ)
+    → cs ≡ before ++ c ∷ [] → c ≡ Raised l b → slice ≡ b → own ≡ (environment_of gs before).offset label at → is ≡ ((label == l) && same_list at slice) → k ≡ (environment_of gs before).used
+    → (if is then plus own (parameter k) else own) ≡ (environment_of gs cs).offset label at
+offset_moved gs cs before c l b label at slice own is k h e hb ho hi hk =
+    ap₂ (λ t n. if t then plus own (parameter n) else own) (hi ∙ ap (λ x. (label == l) && same_list at x) hb) hk
+    ∙ ap (λ p. if (label == l) && same_list at b then plus p (parameter (environment_of gs before).used) else p) ho
+    ∙ ap (λ (env : Environment). env.offset label at) (under gs cs before c (Raised l b) h e)
+
+pub one_more : {A : Type 0} (xs : List A) (i : ℕ) (all more : List A) (x : A) → length xs ≤ i → all ≡ take i xs → more ≡ all ++ x ∷ [] → more ≡ xs ++ x ∷ []
+one_more xs i all more x done was now = now ∙ ap (λ ys. ys ++ x ∷ []) (was ∙ take_all i xs done)
 
 -- ---- steps of loops
 pub looked : (bs : List Bound) (i : ℕ) (d : Bound) (index value : ℕ) → i < length bs → value ≡ names_of (take i bs) index
@@ -95,17 +135,6 @@ pub listed : (v : Names) (at : List Ix) (i : ℕ) (d : Ix) (all more : List ℕ)
     → more ≡ all ++ k ∷ [] → k ≡ index_value v (get_or at i d) → more ≡ index_values v (take (i + 1) at)
 listed v at i d all more k h was now is =
     now ∙ ap₂ (λ ks k. ks ++ k ∷ []) was is ∙ sym (ap (index_values v) (take_at_read at i d h).1 ∙ index_values-push v (take i at) (get_or at i d))
-
-pub offset_moved : (gs : List Given) (rs : List Raised) (i : ℕ) (r : Raised) (label : ℕ) (at : List ℕ) (p q : Polynomial) → i < length rs → r ≡ get_or rs i r
-    → p ≡ (environment_of gs (take i rs)).offset label at
-    → q ≡ (if (label == r.label) && same_list at r.at then plus p (parameter i) else p) → q ≡ (environment_of gs (take (i + 1) rs)).offset label at
-offset_moved gs rs i r label at p q h e was now =
-    now
-    ∙ ap₂ (λ x n. if (label == r.label) && same_list at r.at then plus x (parameter n) else x) was (sym (environment_of-used gs (take i rs) ∙ length_taken))
-    ∙ sym (ap (λ env. env.offset label at) (environment_of-next gs rs i r h e))
-  where
-    length_taken : length (take i rs) ≡ i
-    length_taken = length-take-le i rs (omega arith)
 
 pub gathered_more : {A : Type 0} (n : ℕ) (g : ℕ → List A) (all more left : List A) → all ≡ gathered n g → left ≡ g n → more ≡ all ++ left → more ≡ gathered (n + 1) g
 gathered_more n g all more left was is now = now ∙ ap₂ (λ xs ys. xs ++ ys) was is ∙ ap (λ k. gathered k g) (sym (add-one n))

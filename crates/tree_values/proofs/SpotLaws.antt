@@ -1,7 +1,7 @@
 -- What the operators on matrices and vectors are at a component, by its length
 use Rattle.std.proofs.Common.{◌≡◌, ℕ, refl, List, [], ◌∷◌}
 use Rattle.calculus.specs.Polynomial.{Polynomial, nil}
-use Rattle.ufl_tree.specs.Operators.{identity_value, unit_or_nil, matrix_value}
+use Rattle.ufl_meaning.specs.Operators.{identity_value, unit_or_nil, matrix_value}
 use Rattle.tree_values.specs.Component.{spot_of}
 use Rattle.tree_values.specs.declared.component.Spot.{Spot}
 use Rattle.tree_values.specs.declared.component.Spot.TheVariants.{Scalar, Vector, Matrix, Longer}

@@ -13,21 +13,23 @@ use Rattle.ufl_tree.specs.declared.tree.Node.TheVariants as v
 use Rattle.ufl_tree.specs.Typed.{Typed, number, identity, function, piece, one, two, power as power_of, index, partial, tensor, list, variable, diff}
 use Rattle.ufl_tree.specs.Reading.{typed_of, typed_list}
 use Rattle.ufl_tree.specs.Indices.{Names, index_value, index_values, with_names, front, back}
-use Rattle.ufl_tree.specs.Places.{Table, function_place, piece_place}
-use Rattle.ufl_tree.specs.Environment.{Environment, raised, parameter_number}
-use Rattle.ufl_tree.specs.Operators.{Components, along, sum_names, identity_value, one_value, two_value, at_place, grad_value, curl_value}
-use Rattle.ufl_tree.specs.Value.{value, item_value, chosen_value}
+use Rattle.ufl_tree.specs.Places.{table_of, Table, function_place, piece_place}
+use Rattle.ufl_meaning.specs.Environment.{Environment, raised, parameter_number}
+use Rattle.ufl_meaning.specs.Operators.{Components, along, sum_names, identity_value, one_value, two_value, at_place, grad_value, curl_value}
+use Rattle.ufl_meaning.specs.Value.{value, item_value, chosen_value}
+use Rattle.tree_values.specs.declared.environment.Change.{Change}
+use Rattle.tree_values.specs.declared.environment.Change.TheVariants.{Raised, Turned, Scaled, Replaced, Exchanged}
 use Rattle.tree_values.specs.declared.scene.Bound.{Bound}
 use Rattle.tree_values.specs.declared.scene.Scene.{Scene}
 use Rattle.tree_values.specs.declared.component.Spot.{Spot}
 use Rattle.tree_values.specs.declared.component.Spot.TheVariants.{Scalar, Vector, Matrix, Longer}
 use Rattle.tree_values.specs.Component.{spot_of}
-use Rattle.tree_values.specs.Scene.{names_of, environment_of, sum_over, assigned, component_of}
-use Rattle.tree_values.specs.Value.{table_of, summed_at, value_without_sums, env_of, value_in, unsummed_in, item_in, chosen_in, function_in, piece_in, bound_in, diff_in, sum_in}
+use Rattle.tree_values.specs.Scene.{names_of, changed, environment_of, sum_over, assigned}
+use Rattle.tree_values.specs.Value.{summed_at, value_without_sums, at_marker, env_of, value_in, unsummed_in, item_in, chosen_in, function_component, piece_component, bound_in, diff_in, sum_in}
 use Rattle.tree_values.specs.Operands.{Combines, combination}
 use Rattle.std.proofs.lemmas.List.{take_all}
 use Rattle.tree_values.proofs.NodeLaws as n
-use Rattle.tree_values.proofs.SceneLaws.{sum_over-next, sum_over-assigned, environment_of-value, environment_of-used, environment_of-push}
+use Rattle.tree_values.proofs.SceneLaws.{sum_over-next, sum_over-assigned, environment_of-push}
 
 -- ---- sums over indices
 sums : (es : Table) (e : Typed) (env : Environment) (b : List ℕ) (v : Names) → sum_names (summed_at e) (λ w. value_without_sums es e env b w) v ≡ value es e env b v
@@ -74,12 +76,12 @@ in_number s t b c h = read s t _ b (n.read-Number t c h)
 pub in_identity : (s : Scene) (t : Tree) (b : List ℕ) (m : ℕ) → t.node ≡ v.Identity m → identity_value b ≡ unsummed_in s t b
 in_identity s t b m h = read s t _ b (n.read-Identity t m h)
 
-pub in_function : (s : Scene) (t : Tree) (b : List ℕ) (f : Function) → t.node ≡ v.Fun f → function_in s f b ≡ unsummed_in s t b
-unfolding function_in
+pub in_function : (s : Scene) (t : Tree) (b : List ℕ) (f : Function) → t.node ≡ v.Fun f → function_component s f b ≡ unsummed_in s t b
+unfolding function_component
 in_function s t b f h = read s t _ b (n.read-Fun t f h)
 
-pub in_piece : (s : Scene) (t : Tree) (b : List ℕ) (f : Function) (k : ℕ) → t.node ≡ v.Piece f k → piece_in s f k b ≡ unsummed_in s t b
-unfolding piece_in
+pub in_piece : (s : Scene) (t : Tree) (b : List ℕ) (f : Function) (k : ℕ) → t.node ≡ v.Piece f k → piece_component s f k b ≡ unsummed_in s t b
+unfolding piece_component
 in_piece s t b f k h = read s t _ b (n.read-Piece t f k h)
 
 pub in_one : (s : Scene) (t a : Tree) (b : List ℕ) (op : Op1) → t.node ≡ v.One op a → one_value op a.shape (value_in s a) b ≡ unsummed_in s t b
@@ -155,22 +157,20 @@ item_got s ts i x b h = item_at s ts i x.now b h.3.0 h.1
 pub none_got : (s : Scene) (ts : List Tree) (i : ℕ) (b : List ℕ) → IsItemAt ts i None → nil ≡ item_in s ts i b
 none_got s ts i b h = no_item s ts i b h.3
 
-pub function_at : (s : Scene) (f : Function) (b : List ℕ) (m : ℕ) → function_place (table_of s.elements.now) f b ≡ Some m → component_of s.functions.now f.role m ≡ function_in s f b
-unfolding function_in
-function_at s f b m h =
-    sym (ap (λ g. g f.role m) (environment_of-value s.functions.now s.raised.now)) ∙ sym (ap (λ o. at_place o ((env_of s).value f.role)) h)
+pub function_at : (s : Scene) (f : Function) (b : List ℕ) (m : ℕ) → function_place (table_of s.elements.now) f b ≡ Some m → (env_of s).value f.role m ≡ function_component s f b
+unfolding function_component
+function_at s f b m h = sym (ap (λ o. at_place o ((env_of s).value f.role)) h)
 
-pub no_function : (s : Scene) (f : Function) (b : List ℕ) → function_place (table_of s.elements.now) f b ≡ None → nil ≡ function_in s f b
-unfolding function_in
+pub no_function : (s : Scene) (f : Function) (b : List ℕ) → function_place (table_of s.elements.now) f b ≡ None → nil ≡ function_component s f b
+unfolding function_component
 no_function s f b h = sym (ap (λ o. at_place o ((env_of s).value f.role)) h)
 
-pub piece_at : (s : Scene) (f : Function) (k : ℕ) (b : List ℕ) (m : ℕ) → piece_place (table_of s.elements.now) f k b ≡ Some m → component_of s.functions.now f.role m ≡ piece_in s f k b
-unfolding piece_in
-piece_at s f k b m h =
-    sym (ap (λ g. g f.role m) (environment_of-value s.functions.now s.raised.now)) ∙ sym (ap (λ o. at_place o ((env_of s).value f.role)) h)
+pub piece_at : (s : Scene) (f : Function) (k : ℕ) (b : List ℕ) (m : ℕ) → piece_place (table_of s.elements.now) f k b ≡ Some m → (env_of s).value f.role m ≡ piece_component s f k b
+unfolding piece_component
+piece_at s f k b m h = sym (ap (λ o. at_place o ((env_of s).value f.role)) h)
 
-pub no_piece : (s : Scene) (f : Function) (k : ℕ) (b : List ℕ) → piece_place (table_of s.elements.now) f k b ≡ None → nil ≡ piece_in s f k b
-unfolding piece_in
+pub no_piece : (s : Scene) (f : Function) (k : ℕ) (b : List ℕ) → piece_place (table_of s.elements.now) f k b ≡ None → nil ≡ piece_component s f k b
+unfolding piece_component
 no_piece s f k b h = sym (ap (λ o. at_place o ((env_of s).value f.role)) h)
 
 pub bound_at : (s here : Scene) (t : Tree) (by b : List ℕ) (names : List Bound) → here.elements.now ≡ s.elements.now → env_of here ≡ env_of s → here.names.now ≡ names
@@ -180,14 +180,27 @@ bound_at s here t by b names es env ns h =
     ap₂ (λ x y. value (table_of x) (typed_of t) y [] (names_of here.names.now)) es env
     ∙ ap (λ w. value (table_of s.elements.now) (typed_of t) (env_of s) [] w) (ap names_of ns ∙ h)
 
-pub diff_at : (s here : Scene) (t : Tree) (l k : ℕ) (b last first : List ℕ) (p : Polynomial) → k ≡ length s.raised.now → here.elements.now ≡ s.elements.now → here.functions.now ≡ s.functions.now
-    → here.raised.now ≡ s.raised.now ++ record { label = l; at = last } ∷ [] → here.names.now ≡ s.names.now → last ≡ back t.shape b → first ≡ front t.shape b
+at_marker-changed : (m : ℕ) (c : Change) (env : Environment) → at_marker m (changed c env) ≡ changed c (at_marker m env)
+at_marker-changed m (Raised l b) env = refl
+at_marker-changed m (Turned w d) env = refl
+at_marker-changed m (Scaled w) env = refl
+at_marker-changed m (Replaced w f) env = refl
+at_marker-changed m Exchanged env = refl
+
+-- a scene with one more change
+pub changed_scene : (s here : Scene) (c : Change) → here.functions.now ≡ s.functions.now → here.marker ≡ s.marker → here.changes.now ≡ s.changes.now ++ c ∷ [] → env_of here ≡ changed c (env_of s)
+changed_scene s here c fs ms cs =
+    ap₂ at_marker ms (ap₂ environment_of fs cs ∙ environment_of-push s.functions.now s.changes.now c)
+    ∙ at_marker-changed s.marker c (environment_of s.functions.now s.changes.now)
+
+pub diff_at : (s here : Scene) (t : Tree) (l k : ℕ) (b last first : List ℕ) (p : Polynomial) → k ≡ (env_of s).used → here.elements.now ≡ s.elements.now → here.functions.now ≡ s.functions.now
+    → here.marker ≡ s.marker → here.changes.now ≡ s.changes.now ++ Raised l last ∷ [] → here.names.now ≡ s.names.now → last ≡ back t.shape b → first ≡ front t.shape b
     → p ≡ value_in here t first → coefficient_of (parameter_number k) 1 p ≡ diff_in s t l b
 unfolding value_in diff_in
-diff_at s here t l k b last first p hk es fs rs ns hl hf h =
-    ap₂ (λ n x. coefficient_of (parameter_number n) 1 x) (hk ∙ sym (environment_of-used s.functions.now s.raised.now))
+diff_at s here t l k b last first p hk es fs ms rs ns hl hf h =
+    ap₂ (λ n x. coefficient_of (parameter_number n) 1 x) hk
     (h
-    ∙ ap₂ (λ x y. value (table_of x) (typed_of t) y first (names_of here.names.now)) es (ap₂ environment_of fs rs ∙ environment_of-push s.functions.now s.raised.now _ ∙ ap (λ c. raised l c (env_of s)) hl)
+    ∙ ap₂ (λ x y. value (table_of x) (typed_of t) y first (names_of here.names.now)) es (changed_scene s here (Raised l last) fs ms rs ∙ ap (λ c. raised l c (env_of s)) hl)
     ∙ ap₂ (λ c ns. value (table_of s.elements.now) (typed_of t) (raised l (back t.shape b) (env_of s)) c (names_of ns)) hf ns)
 
 -- ---- operators

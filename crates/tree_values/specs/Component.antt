@@ -1,7 +1,7 @@
 -- Components by their lengths, and all components of a shape
 use Rattle.std.specs.Prelude.{ℕ, List, [], ◌∷◌, map}
 use Rattle.calculus.specs.Polynomial.{Polynomial, nil, plus}
-use Rattle.ufl_tree.specs.Operators.{Components}
+use Rattle.ufl_meaning.specs.Operators.{Components}
 use Rattle.tree_values.specs.Scene.{gathered}
 use Rattle.tree_values.specs.declared.component.Spot.{Spot}
 use Rattle.tree_values.specs.declared.component.Spot.TheVariants.{Scalar, Vector, Matrix, Longer}

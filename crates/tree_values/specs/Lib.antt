@@ -4,3 +4,5 @@ pub mod Scene
 pub mod Component
 pub mod Value
 pub mod Operands
+pub mod Meaning
+pub mod Density

@@ -3,7 +3,7 @@ use Rattle.std.specs.Prelude.{◌≡◌, ℕ, List, [], ◌∷◌, map, Option, 
 use Rattle.calculus.specs.Polynomial.{Polynomial, nil, plus, minus, times}
 use Rattle.ufl_tree.specs.declared.tree.Op2.{Op2}
 use Rattle.ufl_tree.specs.declared.tree.Op2.TheVariants.{Sum, Product, Dot, Inner, Outer, Cross}
-use Rattle.ufl_tree.specs.Operators.{Components, two_value, dot_value, cross_value}
+use Rattle.ufl_meaning.specs.Operators.{Components, two_value, dot_value, cross_value}
 
 abbrev pub total_of : List Polynomial → Polynomial
 total_of [] = nil

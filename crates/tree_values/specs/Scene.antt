@@ -4,11 +4,12 @@ use Rattle.calculus.specs.Polynomial.{Polynomial, nil, plus}
 use Rattle.ufl_tree.specs.declared.function.Free.{Free}
 use Rattle.ufl_tree.specs.declared.function.Role.{Role}
 use Rattle.ufl_tree.specs.Indices.{Names, with_name}
-use Rattle.ufl_tree.specs.Environment.{Environment, raised, same_role}
+use Rattle.ufl_meaning.specs.Environment.{Environment, raised, turned, scaled, with_function, exchanged, same_role}
 use Rattle.tree_values.specs.PolyValue.{value_of}
 use Rattle.tree_values.specs.declared.poly.Poly.{Poly}
-use Rattle.tree_values.specs.declared.scene.Given.{Given}
-use Rattle.tree_values.specs.declared.scene.Raised.{Raised}
+use Rattle.tree_values.specs.declared.environment.Given.{Given}
+use Rattle.tree_values.specs.declared.environment.Change.{Change}
+use Rattle.tree_values.specs.declared.environment.Change.TheVariants.{Raised, Turned, Scaled, Replaced, Exchanged}
 use Rattle.tree_values.specs.declared.scene.Bound.{Bound}
 
 -- ---- names
@@ -45,11 +46,27 @@ component_of [] r i = nil
 component_of (g ∷ gs) r i = if same_role r g.role then poly_or_nil (slice_get g.components i) else component_of gs r i
 
 abbrev pub at_rest : List Given → Environment
-at_rest gs = record { cell = []; value = component_of gs; offset = λ l b. nil; used = 0 }
+at_rest gs = record { cell = []; marker = 0; value = component_of gs; offset = λ l b. nil; used = 0 }
 
-abbrev pub raised_all : Environment → List Raised → Environment
-raised_all env [] = env
-raised_all env (r ∷ rs) = raised_all (raised r.label r.at env) rs
+abbrev pub changed : Change → Environment → Environment
+changed (Raised l c) env = raised l c env
+changed (Turned w d) env = turned w d env
+changed (Scaled w) env = scaled w env
+changed (Replaced w f) env = with_function w f env
+changed Exchanged env = exchanged env
 
-abbrev pub environment_of : List Given → List Raised → Environment
-environment_of gs rs = raised_all (at_rest gs) rs
+abbrev pub changed_all : Environment → List Change → Environment
+changed_all env [] = env
+changed_all env (c ∷ cs) = changed_all (changed c env) cs
+
+-- the functions, after the changes in turn
+abbrev pub environment_of : List Given → List Change → Environment
+environment_of gs cs = changed_all (at_rest gs) cs
+
+-- how many parameters a change takes
+abbrev pub parameters_of : Change → ℕ
+parameters_of (Raised l c) = 1
+parameters_of (Turned w d) = 1
+parameters_of (Scaled w) = 1
+parameters_of (Replaced w f) = 0
+parameters_of Exchanged = 0

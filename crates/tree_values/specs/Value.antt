@@ -1,24 +1,19 @@
 -- What the program computes, read from its arguments
-use Rattle.std.specs.Prelude.{ℕ, zero, suc, Bool, List, [], ◌∷◌, ◌++◌, map, if◌then◌else◌}
+use Rattle.std.specs.Prelude.{ℕ, zero, suc, Bool, List, [], ◌∷◌, ◌++◌, if◌then◌else◌}
 use Rattle.calculus.specs.Polynomial.{Polynomial, nil, plus, times, minus, coefficient_of}
-use Rattle.spaces.specs.Reading.{space_of}
-use Rattle.spaces.specs.declared.element_tree.ElementTree.{ElementTree}
 use Rattle.ufl_tree.specs.declared.function.Free.{Free}
 use Rattle.ufl_tree.specs.declared.tree.Tree.{Tree}
 use Rattle.ufl_tree.specs.Typed.{Typed, number, identity, function, piece, one, two, power, index, partial, tensor, list, variable, diff, own_kind, shape_of, free_of}
 use Rattle.ufl_tree.specs.Reading.{typed_of}
 use Rattle.ufl_tree.specs.Indices.{Names, index_value, index_values, named, direction, repeated, with_names, front, back}
-use Rattle.ufl_tree.specs.Places.{Table, function_place, piece_place}
-use Rattle.ufl_tree.specs.Environment.{Environment, raised, parameter_number}
-use Rattle.ufl_tree.specs.Operators.{Components, along, two_value, one_in, turned_over, matrix_value, summed, trace_value, unit_or_nil, at_place}
-use Rattle.ufl_tree.specs.Value.{value}
+use Rattle.ufl_tree.specs.Places.{table_of, Table, function_place, piece_place}
+use Rattle.ufl_meaning.specs.Environment.{Environment, raised, parameter_number}
+use Rattle.ufl_meaning.specs.Operators.{Components, along, two_value, one_in, turned_over, matrix_value, summed, trace_value, unit_or_nil, at_place}
+use Rattle.ufl_meaning.specs.Value.{value}
 use Rattle.tree_values.specs.Scene.{names_of, environment_of, sum_over}
 use Rattle.tree_values.specs.declared.scene.Bound.{Bound}
 use Rattle.ufl_tree.specs.declared.function.Function.{Function}
 use Rattle.tree_values.specs.declared.scene.Scene.{Scene}
-
-abbrev pub table_of : List ElementTree → Table
-table_of = map space_of
 
 -- the indices that a node sums
 abbrev pub summed_at : Typed → List Free
@@ -52,8 +47,11 @@ value_without_sums es (list k ts) env b v = value es (list k ts) env b v
 value_without_sums es (variable k l a) env b v = value es (variable k l a) env b v
 value_without_sums es (diff k l by a) env b v = value es (diff k l by a) env b v
 
+abbrev pub at_marker : ℕ → Environment → Environment
+at_marker m env = record env { marker = m }
+
 abbrev pub env_of : Scene → Environment
-env_of s = environment_of s.functions.now s.raised.now
+env_of s = at_marker s.marker (environment_of s.functions.now s.changes.now)
 
 -- a component of a tree in a scene
 unfoldable pub value_in : Scene → Tree → Components
@@ -80,12 +78,12 @@ abbrev pub dev_of : ℕ → Components → Components
 dev_of n f = matrix_value (λ i j. minus (f (i ∷ j ∷ [])) (times (times (trace_value n f) (one_in n)) (unit_or_nil i j)))
 
 -- the component of a function
-unfoldable pub function_in : Scene → Function → Components
-function_in s f b = at_place (function_place (table_of s.elements.now) f b) ((env_of s).value f.role)
+unfoldable pub function_component : Scene → Function → Components
+function_component s f b = at_place (function_place (table_of s.elements.now) f b) ((env_of s).value f.role)
 
 -- the component of a sub-element of a function
-unfoldable pub piece_in : Scene → Function → ℕ → Components
-piece_in s f k b = at_place (piece_place (table_of s.elements.now) f k b) ((env_of s).value f.role)
+unfoldable pub piece_component : Scene → Function → ℕ → Components
+piece_component s f k b = at_place (piece_place (table_of s.elements.now) f k b) ((env_of s).value f.role)
 
 -- a scalar tree where the names have the numbers of a component
 unfoldable pub bound_in : Scene → Tree → List ℕ → Components

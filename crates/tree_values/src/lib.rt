@@ -1,13 +1,18 @@
-//! A plain, slow program beside the definitions of `ufl_tree`: `value` computes the polynomial of a component of a typed tree, word for word as it is
-//! defined, from the functions, the moved variables and the names of a `Scene`. Numbers that do not fit are refused.
+//! A plain, slow program beside the definitions of `ufl_meaning`: `value` computes the polynomial of a component of a typed tree, `meaning` that of a
+//! tree in index notation and `density` that of a form, word for word as they are defined, from the functions, their changes and the names of a
+//! `Scene`. Numbers that do not fit are refused.
 //!
 //! Nothing else uses it.
 #![tactic(auto)]
 
 mod component;
+mod densities;
+mod environment;
+mod leaf;
+mod meanings;
 mod number;
 mod operands;
-mod piece;
+mod parts;
 mod place;
 mod poly;
 mod scene;
@@ -16,8 +21,15 @@ mod term;
 mod values;
 #[cfg(test)]
 mod worked;
+#[cfg(test)]
+mod worked_forms;
+#[cfg(test)]
+mod worked_terms;
 
+pub use densities::density;
+pub use environment::{Change, Given};
+pub use meanings::meaning;
 pub use poly::Poly;
-pub use scene::{Bound, Given, Raised, Scene};
+pub use scene::{Bound, Scene};
 pub use term::Term;
 pub use values::value;

@@ -3,7 +3,7 @@
 ghost use Rattle.std.specs.Prelude.{◌≡◌, ℕ, IfOk, [], ◌∷◌, map};
 ghost use Rattle.ufl_tree.specs.declared.tree.Op2.TheVariants.{Product as product_op};
 ghost use Rattle.ufl_tree.specs.Indices.{followed_by, first_size as size_first, last_size as size_last};
-ghost use Rattle.ufl_tree.specs.Operators.{rotated};
+ghost use Rattle.ufl_meaning.specs.Operators.{rotated};
 ghost use Rattle.calculus.specs.Polynomial.{Polynomial, plus};
 ghost use Rattle.tree_values.specs.PolyValue.{value_of};
 ghost use Rattle.tree_values.specs.Scene.{gathered};

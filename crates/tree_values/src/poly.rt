@@ -3,9 +3,9 @@
 ghost use Rattle.std.specs.Prelude.{◌≡◌, IfOk, OnOk};
 ghost use Rattle.ratio.specs.Value.{fraction_of};
 ghost use Rattle.calculus.specs.Polynomial.{nil, one, plus, minus, times, negative, constant, coordinate, power as raised_to, coefficient_of};
-ghost use Rattle.ufl_tree.specs.Environment.{parameter, parameter_number};
-ghost use Rattle.ufl_tree.specs.Operators.{along};
-ghost use Rattle.tree_values.specs.TermValue.{term_of, sum_of};
+ghost use Rattle.ufl_meaning.specs.Environment.{parameter, parameter_number};
+ghost use Rattle.ufl_meaning.specs.Operators.{along};
+ghost use Rattle.tree_values.specs.TermValue.{term_of, part_value, sum_of};
 
 use crate::term::Term;
 use ratio::Ratio;
@@ -68,10 +68,10 @@ fn derivatives(alloc: Global, p: &[Term], direction: u8) -> Result<Items<Term>, 
     Ok(terms)
 }
 
-fn append_part(out: &mut Items<Term>, t: Term, k: usize) -> Result<(), Fault>
-    ensures { OnOk result (sum_of out.new ≡ plus (sum_of out.old) (coefficient_of (parameter_number k) 1 (term_of t))) }
+fn append_part(out: &mut Items<Term>, t: Option<Term>) -> Result<(), Fault>
+    ensures { OnOk result (sum_of out.new ≡ plus (sum_of out.old) (part_value t)) }
 {
-    match t.linear_part(k) {
+    match t {
         Some(u) => {
             out.push(u)?;
             Ok(())
@@ -85,7 +85,17 @@ fn linear_parts(alloc: Global, p: &[Term], k: usize) -> Result<Items<Term>, Faul
 {
     let mut terms = Items::new(alloc);
     for t in p {
-        append_part(&mut terms, *t, k)?;
+        append_part(&mut terms, t.linear_part(k))?;
+    }
+    Ok(terms)
+}
+
+fn constant_parts(alloc: Global, p: &[Term], k: usize) -> Result<Items<Term>, Fault>
+    ensures { IfOk result (λ r. sum_of r ≡ coefficient_of (parameter_number k) 0 (sum_of p.now)) }
+{
+    let mut terms = Items::new(alloc);
+    for t in p {
+        append_part(&mut terms, t.constant_part(k))?;
     }
     Ok(terms)
 }
@@ -214,6 +224,15 @@ impl Poly {
             terms: linear_parts(alloc, self.terms.as_slice(), k)?,
         })
     }
+
+    /// The coefficient of power 0 of a parameter.
+    pub fn constant_part(&self, alloc: Global, k: usize) -> Result<Poly, Fault>
+        ensures { IfOk result (λ r. value_of r ≡ coefficient_of (parameter_number k) 0 (value_of self.now)) }
+    {
+        Ok(Poly {
+            terms: constant_parts(alloc, self.terms.as_slice(), k)?,
+        })
+    }
 }
 
 #[cfg(test)]
@@ -229,15 +248,16 @@ mod tests {
         Ok(sum)
     }
 
-    // Of (1 + x + t)^n: the coefficients add up to 3^n, those of the derivative in x to n 3^(n-1), and those of the power 1 of t to n 2^(n-1).
+    // Of (1 + x + t)^n: the coefficients add up to 3^n, those of the derivative in x to n 3^(n-1), those of the power 0 of t to 2^n and those of the
+    // power 1 to n 2^(n-1).
     #[test]
     fn powers_of_a_sum(rt: HostRuntime) -> Result<(), Fault> {
         let alloc = rt.alloc();
-        for (n, all, slope, linear) in [
-            (0, 1, 0, 0),
-            (1, 3, 1, 1),
-            (2, 9, 6, 4),
-            (4, 81, 108, 32),
+        for (n, all, slope, constant, linear) in [
+            (0, 1, 0, 1, 0),
+            (1, 3, 1, 2, 1),
+            (2, 9, 6, 4, 4),
+            (4, 81, 108, 16, 32),
         ] {
             let x = Poly::coordinate(alloc, 0)?;
             let t = Poly::parameter(alloc, 0)?;
@@ -250,6 +270,8 @@ mod tests {
             assert!(rt; Ratio::new(slope, 1) == Some(derived));
             let part = total(&p.linear_part(alloc, 0)?)?;
             assert!(rt; Ratio::new(linear, 1) == Some(part));
+            let rest = total(&p.constant_part(alloc, 0)?)?;
+            assert!(rt; Ratio::new(constant, 1) == Some(rest));
             let nothing = total(&p.difference(alloc, &p.copy(alloc)?)?)?;
             assert!(rt; nothing.is_zero());
         }

@@ -1,32 +1,15 @@
 //! What the value of a tree depends on.
 
-ghost use Rattle.std.specs.Prelude.{◌≡◌, IfOk, List, [], ◌∷◌, ◌++◌, ◌==◌, ◌&&◌, if◌then◌else◌};
+ghost use Rattle.std.specs.Prelude.{◌≡◌, IfOk, [], ◌∷◌, ◌++◌, if◌then◌else◌};
 ghost use Rattle.ufl_tree.specs.Indices.{index_value, index_values, with_names};
-ghost use Rattle.calculus.specs.Polynomial.{plus};
-ghost use Rattle.ufl_tree.specs.Environment.{same_role, same_list, parameter};
-ghost use Rattle.tree_values.specs.PolyValue.{value_of};
-ghost use Rattle.tree_values.specs.Scene.{names_of, environment_of, component_of, assigned};
+ghost use Rattle.tree_values.specs.Scene.{names_of, assigned};
 
-use crate::poly::Poly;
+use crate::environment::{Change, Given};
 use reference::Fault;
 use spaces::Element;
 use sqlite_items::Items;
 use std::alloc::Global;
-use ufl_tree::{Free, Ix, Role};
-
-/// The function of a role, by its components.
-#[derive(Drop)]
-pub struct Given {
-    pub role: Role,
-    pub components: Items<Poly>,
-}
-
-/// A component of a variable that a parameter was added to.
-#[derive(Drop)]
-pub struct Raised {
-    pub label: u32,
-    pub at: Items<u8>,
-}
+use ufl_tree::{Free, Ix};
 
 /// The value of a name.
 #[derive(Clone, Copy)]
@@ -35,12 +18,13 @@ pub struct Bound {
     pub value: u8,
 }
 
-/// The elements by their numbers, the functions, the components that parameters were added to, one parameter after the other, and the names.
+/// The elements by their numbers, the functions, the marker of the cell, what was changed of the functions, one change after the other, and the names.
 #[derive(Clone, Copy)]
 pub struct Scene<'a> {
     pub elements: &'a [Element],
     pub functions: &'a [Given],
-    pub raised: &'a [Raised],
+    pub marker: u32,
+    pub changes: &'a [Change],
     pub names: &'a [Bound],
 }
 
@@ -135,81 +119,5 @@ pub fn assignments(
         let more = with_bound(alloc, names, first.index, k)?;
         all.append(assignments(alloc, rest, more.as_slice())?)?;
     }
-    Ok(all)
-}
-
-/// A component of the function of a role; one that isn't there is 0.
-pub fn component(alloc: Global, functions: &[Given], role: Role, at: usize) -> Result<Poly, Fault>
-    ensures { IfOk result (λ p. value_of p ≡ component_of functions.now role at) }
-{
-    let Some((first, rest)) = functions.split_first() else {
-        return Ok(Poly::zero(alloc));
-    };
-    if !is_same(role, first.role) {
-        return component(alloc, rest, role, at);
-    }
-    match first.components.get(at) {
-        Some(p) => p.copy(alloc),
-        None => Ok(Poly::zero(alloc)),
-    }
-}
-
-fn is_same(a: Role, b: Role) -> bool
-    ensures { result ≡ same_role a b }
-{
-    match (a, b) {
-        (Role::Test, Role::Test) => true,
-        (Role::Trial, Role::Trial) => true,
-        (Role::Coefficient(m), Role::Coefficient(n)) => m == n,
-        _ => false,
-    }
-}
-
-fn moved(alloc: Global, total: Poly, is: bool, k: usize) -> Result<Poly, Fault>
-    ensures { IfOk result (λ p. value_of p ≡ (if is then plus (value_of total) (parameter k) else value_of total)) }
-{
-    if !is {
-        return Ok(total);
-    }
-    total.sum(alloc, &Poly::parameter(alloc, k)?)
-}
-
-/// What was added to a component of a variable.
-pub fn offset(alloc: Global, raised: &[Raised], label: u32, at: &[u8]) -> Result<Poly, Fault>
-    ensures { (fs : List Given) → IfOk result (λ p. value_of p ≡ (environment_of fs raised.now).offset label at.now) }
-{
-    let mut total = Poly::zero(alloc);
-    for k in 0..raised.len() {
-        total = moved(alloc, total, is_raised(&raised[k], label, at), k)?;
-    }
-    Ok(total)
-}
-
-fn is_raised(raised: &Raised, label: u32, at: &[u8]) -> bool
-    ensures { result ≡ ((label == raised.now.label) && same_list at.now raised.now.at) }
-{
-    label == raised.label && at == raised.at.as_slice()
-}
-
-/// With one more component of a variable, which the next parameter is added to.
-pub fn with_raised(
-    alloc: Global,
-    raised: &[Raised],
-    label: u32,
-    at: &[u8],
-) -> Result<Items<Raised>, Fault>
-    ensures { IfOk result (λ r. r ≡ raised.now ++ record { label = label; at = at.now } ∷ []) }
-{
-    let mut all = Items::new(alloc);
-    for one in raised {
-        all.push(Raised {
-            label: one.label,
-            at: Items::from_slice(alloc, one.at.as_slice())?,
-        })?;
-    }
-    all.push(Raised {
-        label,
-        at: Items::from_slice(alloc, at)?,
-    })?;
     Ok(all)
 }

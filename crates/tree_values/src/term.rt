@@ -1,11 +1,11 @@
 //! Terms of polynomials in the coordinates of space and up to three parameters.
 
-ghost use Rattle.std.specs.Prelude.{◌≡◌, ◌-◌, IfOk, IfSome};
+ghost use Rattle.std.specs.Prelude.{◌≡◌, ◌-◌, IfOk, IfSome, get_or};
 ghost use Rattle.ratio.specs.Value.{fraction_of};
 ghost use Rattle.calculus.specs.Polynomial.{constant, coordinate, times, negative, coefficient_of};
-ghost use Rattle.ufl_tree.specs.Environment.{parameter, parameter_number};
-ghost use Rattle.ufl_tree.specs.Operators.{along};
-ghost use Rattle.tree_values.specs.TermValue.{term_of, part_value};
+ghost use Rattle.ufl_meaning.specs.Environment.{parameter, parameter_number};
+ghost use Rattle.ufl_meaning.specs.Operators.{along};
+ghost use Rattle.tree_values.specs.TermValue.{term_of, powers_of, part_value};
 
 use crate::number;
 use ratio::Ratio;
@@ -181,6 +181,28 @@ impl Term {
         } else {
             None
         }
+    }
+
+    /// The power of a parameter.
+    fn power(self, k: usize) -> u32
+        ensures { result ≡ get_or (powers_of self) (parameter_number k) 0 }
+    {
+        if k == 0 {
+            self.first
+        } else if k == 1 {
+            self.second
+        } else if k == 2 {
+            self.third
+        } else {
+            0
+        }
+    }
+
+    /// The term itself, where the power of this parameter is 0; else nothing.
+    pub fn constant_part(self, k: usize) -> Option<Term>
+        ensures { part_value result ≡ coefficient_of (parameter_number k) 0 (term_of self) }
+    {
+        if self.power(k) == 0 { Some(self) } else { None }
     }
 
     fn first_part(self) -> Option<Term>

@@ -1,68 +1,26 @@
 //! The value of a typed tree, word for word as it is defined.
 
 ghost use Rattle.std.specs.Prelude.{◌≡◌, ℕ, IfOk, [], ◌∷◌, map};
-ghost use Rattle.ufl_tree.specs.Operators.{along, identity_value, unit_or_nil, one_value, grad_value, nabla_grad_value, sum_below, curl_value, matrix_value, turned_over, trace_value};
+ghost use Rattle.calculus.specs.Integral.{sum_below};
+ghost use Rattle.ufl_meaning.specs.Operators.{along, one_value, grad_value, nabla_grad_value, curl_value, matrix_value, turned_over, trace_value};
 ghost use Rattle.ufl_tree.specs.Indices.{followed_by};
 ghost use Rattle.tree_values.specs.PolyValue.{value_of};
-ghost use Rattle.tree_values.specs.Value.{value_in, unsummed_in, chosen_in, function_in, piece_in, bound_in, diff_in, half_of, dev_of};
+ghost use Rattle.tree_values.specs.Value.{value_in, unsummed_in, chosen_in, bound_in, diff_in, half_of, dev_of};
 
 use crate::component::{
     Spot, before, behind, first_part, last_part, measured, of_matrix, of_vector,
 };
+use crate::environment::{Change, offset, used, with_change};
+use crate::leaf::{function, identity, piece, unit};
 use crate::number::one_in;
 use crate::operands::{combined, first_size, last_size, other_axes, wanted};
-use crate::piece::piece_place;
-use crate::place::function_place;
 use crate::poly::Poly;
-use crate::scene::{
-    Scene, assignments, component, number, numbers, offset, with_all_bound, with_raised,
-};
+use crate::scene::{Scene, assignments, number, numbers, with_all_bound};
 use crate::summed::summed;
 use reference::Fault;
 use sqlite_items::Items;
 use std::alloc::Global;
-use ufl_tree::{Function, Node, Op1, Tree};
-
-/// 1 where both numbers are equal, else 0.
-fn unit(alloc: Global, i: u8, j: u8) -> Result<Poly, Fault>
-    ensures { IfOk result (λ p. value_of p ≡ unit_or_nil i j) }
-{
-    if i == j {
-        Poly::one(alloc)
-    } else {
-        Ok(Poly::zero(alloc))
-    }
-}
-
-#[tactic(auto, using(crate::proofs::SpotLaws::spots))]
-fn identity(alloc: Global, at: &[u8]) -> Result<Poly, Fault>
-    ensures { IfOk result (λ p. value_of p ≡ identity_value at.now) }
-{
-    match measured(at) {
-        Spot::Matrix(i, j) => unit(alloc, i, j),
-        Spot::Scalar => Ok(Poly::zero(alloc)),
-        Spot::Vector(_) => Ok(Poly::zero(alloc)),
-        Spot::Longer => Ok(Poly::zero(alloc)),
-    }
-}
-
-fn function(alloc: Global, scene: &Scene, f: Function, at: &[u8]) -> Result<Poly, Fault>
-    ensures { IfOk result (λ p. value_of p ≡ function_in scene.now f at.now) }
-{
-    match function_place(scene.elements, f, at) {
-        Some(n) => component(alloc, scene.functions, f.role, n),
-        None => Ok(Poly::zero(alloc)),
-    }
-}
-
-fn piece(alloc: Global, scene: &Scene, f: Function, which: u8, at: &[u8]) -> Result<Poly, Fault>
-    ensures { IfOk result (λ p. value_of p ≡ piece_in scene.now f which at.now) }
-{
-    match piece_place(scene.elements, f, which, at)? {
-        Some(n) => component(alloc, scene.functions, f.role, n),
-        None => Ok(Poly::zero(alloc)),
-    }
-}
+use ufl_tree::{Node, Op1, Tree};
 
 /// The component of a tree at the numbers `at`. `Range` where a number doesn't fit, a mixed element in a list has more than 255 scalar parts, or more
 /// than three derivatives by variables are nested.
@@ -78,7 +36,8 @@ pub fn value(alloc: Global, scene: &Scene, tree: &Tree, at: &[u8]) -> Result<Pol
         let here = Scene {
             elements: scene.elements,
             functions: scene.functions,
-            raised: scene.raised,
+            marker: scene.marker,
+            changes: scene.changes,
             names: names.as_slice(),
         };
         total = total.sum(alloc, &unsummed(alloc, &here, tree, at)?)?;
@@ -116,7 +75,7 @@ fn unsummed(alloc: Global, scene: &Scene, tree: &Tree, at: &[u8]) -> Result<Poly
         Node::Tensor(a, by) => tensor(alloc, scene, a.get(), by.as_slice(), at),
         Node::List(items) => chosen(alloc, scene, items.as_slice(), at),
         Node::Variable(label, a) => {
-            let moved = offset(alloc, scene.raised, *label, at)?;
+            let moved = offset(alloc, scene.changes, *label, at)?;
             value(alloc, scene, a.get(), at)?.sum(alloc, &moved)
         }
         Node::Diff { label, by: _, body } => diff(alloc, scene, body.get(), *label, at),
@@ -148,7 +107,8 @@ fn tensor(alloc: Global, scene: &Scene, a: &Tree, by: &[u16], at: &[u8]) -> Resu
     let here = Scene {
         elements: scene.elements,
         functions: scene.functions,
-        raised: scene.raised,
+        marker: scene.marker,
+        changes: scene.changes,
         names: names.as_slice(),
     };
     value(alloc, &here, a, &[])
@@ -160,14 +120,19 @@ fn diff(alloc: Global, scene: &Scene, a: &Tree, label: u32, at: &[u8]) -> Result
     ensures { IfOk result (λ p. value_of p ≡ diff_in scene.now a.now label at.now) }
 {
     let shape = a.shape.as_slice();
-    let raised = with_raised(alloc, scene.raised, label, last_part(shape, at))?;
+    let raised = Change::Raised {
+        label,
+        at: Items::from_slice(alloc, last_part(shape, at))?,
+    };
+    let changes = with_change(alloc, scene.changes, raised)?;
     let here = Scene {
         elements: scene.elements,
         functions: scene.functions,
-        raised: raised.as_slice(),
+        marker: scene.marker,
+        changes: changes.as_slice(),
         names: scene.names,
     };
-    value(alloc, &here, a, first_part(shape, at))?.linear_part(alloc, scene.raised.len())
+    value(alloc, &here, a, first_part(shape, at))?.linear_part(alloc, used(scene.changes))
 }
 
 #[cycle(values)]

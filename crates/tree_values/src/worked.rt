@@ -1,7 +1,8 @@
 //! Values of small trees, against numbers worked out by hand at the point (2, 3, 5).
 
+use crate::environment::Given;
 use crate::poly::Poly;
-use crate::scene::{Given, Scene};
+use crate::scene::Scene;
 use crate::values::value;
 use ratio::Ratio;
 use reference::Fault;
@@ -170,7 +171,7 @@ fn raised_to(base: i128, n: u32) -> Result<Ratio, Fault> {
 }
 
 // The value at x = 2, y = 3, z = 5, where no parameter is left.
-fn at_point(p: &Poly) -> Result<Ratio, Fault> {
+pub fn at_point(p: &Poly) -> Result<Ratio, Fault> {
     let mut total = Ratio::zero();
     for t in p.terms() {
         if t.first != 0 || t.second != 0 || t.third != 0 {
@@ -187,7 +188,7 @@ fn at_point(p: &Poly) -> Result<Ratio, Fault> {
     Ok(total)
 }
 
-fn coordinates(alloc: Global) -> Result<Items<Poly>, Fault> {
+pub fn coordinates(alloc: Global) -> Result<Items<Poly>, Fault> {
     let mut all = Items::new(alloc);
     for k in 0..3 {
         all.push(Poly::coordinate(alloc, k)?)?;
@@ -196,7 +197,7 @@ fn coordinates(alloc: Global) -> Result<Items<Poly>, Fault> {
 }
 
 // A vector of three, and a list of that vector and a scalar.
-fn elements(alloc: Global) -> Result<Items<Element>, Fault> {
+pub fn elements(alloc: Global) -> Result<Items<Element>, Fault> {
     let part = Element::scalar(Family::Lagrange, Cell::Tetrahedron, 1).ok_or(Fault::Shape)?;
     let Ok(first) = Element::vector(alloc, part.copy(alloc)?, 3) else {
         return Err(Fault::Shape);
@@ -230,7 +231,8 @@ fn evaluated(alloc: Global, t: &Tree, at: At) -> Result<Ratio, Fault> {
     let scene = Scene {
         elements: elements.as_slice(),
         functions: functions.as_slice(),
-        raised: &[],
+        marker: 4,
+        changes: &[],
         names: &[],
     };
     let at = component(alloc, at)?;

@@ -6,13 +6,12 @@ use Rattle.spaces.specs.declared.cell.Cell.{Cell}
 use Rattle.ufl_tree.specs.declared.function.Ix.{Ix}
 use Rattle.ufl_tree.specs.declared.tree.Op1.{Op1}
 use Rattle.ufl_tree.specs.declared.tree.Op2.{Op2}
-use Rattle.ufl_tree.specs.declared.tree.Tree.{Tree, fold_out-Tree}
+use Rattle.ufl_tree.specs.declared.tree.Tree.{Tree}
 use Rattle.ufl_tree.specs.declared.tree.Node.{Node}
-use Rattle.ufl_tree.specs.declared.tree.Node.TheOpen.{Node-F}
-use Rattle.ufl_tree.specs.declared.tree.Node.TheFolds.{fold_out-Node}
 use Rattle.ufl_tree.specs.declared.tree.Node.TheVariants as v
 use Rattle.ufl_tree.specs.Typed.{Kind, Typed, number, identity, one, two, power, index, partial, tensor, variable, diff, own_kind}
-use Rattle.ufl_tree.specs.Reading.{typed_of, node_layer, tree_layer, kind_of, tree_with}
+use Rattle.ufl_tree.specs.Reading.{typed_of, kind_of, tree_with}
+use Rattle.ufl_tree.proofs.KindLaws.{own_kind-typed_of}
 use Rattle.ufl_tree.proofs.ReadingLaws.{typed_of-Number, typed_of-Identity, typed_of-One, typed_of-Two, typed_of-Power, typed_of-Index, typed_of-Partial, typed_of-Tensor, typed_of-Variable, typed_of-Diff}
 use Rattle.ufl_expr.specs.declared.refusal.TypeRefusal.{TypeRefusal}
 use Rattle.ufl_expr.specs.declared.refusal.TypeRefusal.TheVariants.{Memory}
@@ -57,29 +56,6 @@ gives_kind (Err r) s S f F hs hf = inr refl
 gives_kind (Ok c) (Err r) S f F hs hf = gives_refused r S (λ x. kind_from (Ok c) x F) refl hs
 gives_kind (Ok c) (Ok s) S (Err r) F hs hf = gives_second c s S r F hs hf
 gives_kind (Ok c) (Ok s) S (Ok f) F hs hf = ap₂ (λ x y. kind_from (Ok c) x y) hs hf
-
--- ---- the kind of a tree
-layer_kind : (x : Node-F (Kind → Typed) Typed) (k : Kind) → own_kind (node_layer x k) ≡ k
-layer_kind (Node-F.Number c) k = refl
-layer_kind (Node-F.Identity n) k = refl
-layer_kind (Node-F.Fun f) k = refl
-layer_kind (Node-F.Piece f n) k = refl
-layer_kind (Node-F.One op a) k = refl
-layer_kind (Node-F.Two op a b) k = refl
-layer_kind (Node-F.Power a n) k = refl
-layer_kind (Node-F.Index a at) k = refl
-layer_kind (Node-F.Partial a i) k = refl
-layer_kind (Node-F.Tensor a by) k = refl
-layer_kind (Node-F.List items) k = refl
-layer_kind (Node-F.Variable l a) k = refl
-layer_kind (Node-F.Diff l by a) k = refl
-
-pub own_kind-typed_of : (t : Tree) → own_kind (typed_of t) ≡ kind_of t
-unfolding typed_of
-own_kind-typed_of t =
-    ap own_kind (fold_out-Tree (Kind → Typed) Typed node_layer tree_layer t)
-    ∙ ap (λ f. own_kind (f (kind_of t))) (fold_out-Node (Kind → Typed) Typed node_layer tree_layer t.node)
-    ∙ layer_kind _ (kind_of t)
 
 -- ---- counted trees
 -- the tree obeys the table, with n nodes and the height h

@@ -1,5 +1,5 @@
 -- Tables of elements: equal spaces, numbers, and the element that is added
-use Rattle.std.proofs.Common.{◌≡◌, ℕ, suc, ◌-◌, ◌<◌, ◌≤◌, ◌==◌, Bool, true, false, true≢false, if◌then◌else◌, List, [], ◌∷◌, ◌++◌, length, drop, Option, None, Some, slice_get, refl, sym, ap, ap₂, ◌∙◌, subst, arith}
+use Rattle.std.proofs.Common.{◌≡◌, ℕ, suc, ◌-◌, ◌<◌, ◌≤◌, ◌==◌, Bool, true, false, true≢false, if◌then◌else◌, List, [], ◌∷◌, ◌++◌, length, drop, Option, None, Some, slice_get, refl, sym, ap, ap₂, ◌∙◌, subst, length-append, arith}
 use Rattle.std.proofs.lemmas.Bool.{eqb-true, eq-eqb}
 use Rattle.std.proofs.lemmas.List.{map-append, length-map, drop_all}
 use Rattle.std.proofs.lemmas.Option.{slice_get_within}
@@ -12,9 +12,9 @@ use Rattle.spaces.specs.Space.{Space, scalar, vector, tensor, mixed, Spaces, no_
 use Rattle.spaces.specs.declared.element_tree.ElementTree.TheVariants as v
 use Rattle.spaces.specs.Reading.{space_of, spaces_in}
 use Rattle.spaces.proofs.ReadingLaws.{space_of-Vector, space_of-Tensor}
-use Rattle.ufl_tree.specs.Places.{Table}
+use Rattle.ufl_tree.specs.Places.{Table, table_of}
 use Rattle.ufl_expr.specs.Table.{same_cell}
-use Rattle.ufl_expr.specs.Elements.{same_family, same_sizes, same_space, same_spaces, table_of, number_from, number_of, has_space, AreDistinct, with_element}
+use Rattle.ufl_expr.specs.Elements.{same_family, same_sizes, same_space, same_spaces, number_from, number_of, has_space, AreDistinct, with_element}
 
 -- ---- tests
 first_true : (a b : Bool) → (if a then b else false) ≡ true → a ≡ true
@@ -36,7 +36,7 @@ family_true Real Lagrange h = absurd (true≢false (sym h))
 family_true Real Dg h = absurd (true≢false (sym h))
 family_true Real Real h = refl
 
-cell_true : (c e : Cell) → same_cell c e ≡ true → c ≡ e
+pub cell_true : (c e : Cell) → same_cell c e ≡ true → c ≡ e
 cell_true Interval Interval h = refl
 cell_true Interval Triangle h = absurd (true≢false (sym h))
 cell_true Interval Tetrahedron h = absurd (true≢false (sym h))
@@ -154,6 +154,9 @@ pub added_at : (es : List ElementTree) (e : ElementTree) (k : ℕ) → k ≡ len
 added_at es e k h =
     ap₂ (λ ts n. slice_get ts n) (map-append space_of es (e ∷ [])) (h ∙ sym (length-map es space_of)) ∙ last_at (table_of es) (space_of e)
 
+pub one_more : (e : ElementTree) (es zs us : List ElementTree) → us ≡ es ++ e ∷ [] → es ≡ zs → length zs < 65536 → length us ≤ 65536
+one_more e es zs us h same few = omega (arith, ap length h, length-append es (e ∷ []), ap length same, few)
+
 -- ---- distinct elements
 both_true : (a b : Bool) → a ≡ true → b ≡ true → (if a then b else false) ≡ true
 both_true true b h k = k
@@ -164,7 +167,7 @@ not_true true h = absurd (h refl)
 not_true false h = refl
 
 mutual
-  space_refl : (s : Space) → same_space s s ≡ true
+  pub space_refl : (s : Space) → same_space s s ≡ true
   space_refl (scalar Lagrange Interval q) = eq-eqb q q refl
   space_refl (scalar Lagrange Triangle q) = eq-eqb q q refl
   space_refl (scalar Lagrange Tetrahedron q) = eq-eqb q q refl

@@ -10,13 +10,13 @@ use Rattle.ufl_tree.specs.declared.function.Function.{Function}
 use Rattle.ufl_tree.specs.declared.tree.Node.TheVariants as v
 use Rattle.ufl_tree.specs.Typed.{Kind, function, piece}
 use Rattle.ufl_tree.specs.Reading.{typed_of, tree_with}
-use Rattle.ufl_tree.specs.Places.{Table, element_shape, Piece, piece_of, sub_element}
+use Rattle.ufl_tree.specs.Places.{Table, element_shape, Piece, piece_of, sub_element, table_of}
 use Rattle.ufl_tree.proofs.ReadingLaws.{typed_of-Fun, typed_of-Piece}
 use Rattle.ufl_expr.specs.declared.refusal.TypeRefusal.TheVariants.{Kind as OfKind}
 use Rattle.ufl_expr.specs.Sizes.{nodes_of, height_of}
 use Rattle.ufl_expr.specs.Answer.{Gives}
 use Rattle.ufl_expr.specs.Table.{IsTyped, Verdict}
-use Rattle.ufl_expr.specs.Elements.{table_of, function_kind, function_in, piece_kind, piece_in}
+use Rattle.ufl_expr.specs.Elements.{space_in, function_kind, function_in, piece_kind, piece_in}
 use Rattle.ufl_expr.proofs.BuildingLaws.{Counted, counted_same}
 
 space_at : (es : List ElementTree) (k : ℕ) (e : ElementTree) → slice_get es k ≡ Some e → slice_get (table_of es) k ≡ Some (space_of e)
@@ -53,7 +53,7 @@ function_typed (Some s) k h =
 pub counted_function : (f : Function) (table : Table) (k : Kind) → function_in table f ≡ Ok k → Counted (typed_of (tree_with (v.Fun f) k)) 1 1
 unfolding IsTyped nodes_of height_of
 counted_function f table k is =
-    counted_same _ (function k f) 1 1 (typed_of-Fun f k) (record { typed = function_typed (slice_get table f.element) k is; count = refl; depth = refl })
+    counted_same _ (function k f) 1 1 (typed_of-Fun f k) (record { typed = function_typed (space_in table f) k is; count = refl; depth = refl })
 
 piece_typed : (o : Option Space) (p : Option Piece) (k : Kind) → piece_kind o p ≡ Ok k → (k.free ≡ []) × IsSome k.cell
 piece_typed None p k h = cc
@@ -66,7 +66,7 @@ pub counted_piece : (f : Function) (n : ℕ) (table : Table) (k : Kind) → piec
 unfolding IsTyped nodes_of height_of
 counted_piece f n table k is =
     counted_same _ (piece k f n) 1 1 (typed_of-Piece f n k)
-    (record { typed = piece_typed (slice_get table f.element) (sub_element (slice_get table f.element) n) k is; count = refl; depth = refl })
+    (record { typed = piece_typed (space_in table f) (sub_element (space_in table f) n) k is; count = refl; depth = refl })
 
 -- the part of a function of an element that is there
 pub piece_at : (es : List ElementTree) (k n : ℕ) (e : ElementTree) (w : Verdict) → Some e ≡ slice_get es k

@@ -6,3 +6,4 @@ pub mod ElementLaws
 pub mod FunctionLaws
 pub mod PieceLaws
 pub mod FitLaws
+pub mod CellLaws

@@ -12,7 +12,8 @@ use Rattle.ufl_expr.specs.Shapes.{shape_if}
 use Rattle.ufl_expr.specs.Frees.{FreeVerdict}
 use Rattle.ufl_expr.specs.Table.{IsTyped, AreTyped, CellVerdict, kind_from, kinds_of, cell_behind, have_shape, list_free, list_kind}
 use Rattle.ufl_expr.specs.Extent.{IsExtent}
-use Rattle.ufl_expr.proofs.BuildingLaws.{Counted, counted_same, own_kind-typed_of}
+use Rattle.ufl_tree.proofs.KindLaws.{own_kind-typed_of}
+use Rattle.ufl_expr.proofs.BuildingLaws.{Counted, counted_same}
 
 abbrev pub listed : List Tree → TypedList
 listed ts = typed_list (map typed_of ts)

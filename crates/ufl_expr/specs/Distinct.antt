@@ -1,6 +1,9 @@
 -- What is true of each table
+use Rattle.std.specs.Prelude.{◌≤◌, length}
 use Rattle.ufl_expr.specs.declared.elements.Elements.TheInside.{Inside}
-use Rattle.ufl_expr.specs.Elements.{table_of, AreDistinct}
+use Rattle.ufl_tree.specs.Places.{table_of}
+use Rattle.ufl_expr.specs.Elements.{AreDistinct}
 
-abbrev pub IsTable : Inside → Type 0
-IsTable e = AreDistinct (table_of e.items)
+pub record IsTable (e : Inside) : Type 0 where
+  pub distinct : AreDistinct (table_of e.items)
+  pub few : length e.items ≤ 65536

@@ -12,3 +12,4 @@ pub mod Elements
 pub mod Distinct
 pub mod Few
 pub mod Fits
+pub mod Numbered

@@ -1,10 +1,11 @@
 -- Shapes, the sizes of a value's indices: those that an operator takes, and those that it gives. d is the dimension of the cell
-use Rattle.std.specs.Prelude.{ℕ, ◌-◌, ◌==◌, ◌&&◌, Bool, true, false, List, [], ◌∷◌, ◌++◌, take, drop, length, if◌then◌else◌, Option, None, Some, Result, Ok, Err, slice_get, nat_eq, nat_le, nat_lt}
+use Rattle.std.specs.Prelude.{ℕ, ◌-◌, ◌==◌, ◌&&◌, Bool, true, false, List, [], ◌∷◌, ◌++◌, take, length, if◌then◌else◌, Option, None, Some, Result, Ok, Err, slice_get, nat_eq, nat_le, nat_lt}
 use Rattle.std.specs.Cmp.Lexicographic.{pointwise}
 use Rattle.spaces.specs.declared.cell.Cell.{Cell}
 use Rattle.spaces.specs.Cell.{dimension}
 use Rattle.ufl_tree.specs.declared.function.Ix.{Ix}
 use Rattle.ufl_tree.specs.declared.function.Ix.TheVariants.{Fixed, Named}
+use Rattle.ufl_tree.specs.Indices.{all_but_first}
 use Rattle.ufl_tree.specs.declared.tree.Op1.{Op1}
 use Rattle.ufl_tree.specs.declared.tree.Op1.TheVariants.{Neg, Grad, NablaGrad, Div, NablaDiv, Curl, Transpose, Trace, Sym, Skew, Dev}
 use Rattle.ufl_tree.specs.declared.tree.Op2.{Op2}
@@ -39,9 +40,6 @@ first_of s = slice_get s 0
 
 abbrev pub last_of : List ℕ → Option ℕ
 last_of s = slice_get s (length s - 1)
-
-abbrev pub all_but_first : List ℕ → List ℕ
-all_but_first s = drop 1 s
 
 abbrev pub all_but_last : List ℕ → List ℕ
 all_but_last s = take (length s - 1) s

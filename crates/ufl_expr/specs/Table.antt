@@ -5,7 +5,7 @@ use Rattle.spaces.specs.declared.cell.Cell.{Cell}
 use Rattle.spaces.specs.declared.cell.Cell.TheVariants.{Interval, Triangle, Tetrahedron}
 use Rattle.ufl_tree.specs.declared.function.Free.{Free}
 use Rattle.ufl_tree.specs.declared.function.Role.{Role}
-use Rattle.ufl_tree.specs.declared.function.Role.TheVariants.{Test, Trial, Coefficient}
+use Rattle.ufl_tree.specs.declared.function.Role.TheVariants.{Test, Trial, Position, Coefficient}
 use Rattle.ufl_tree.specs.declared.function.Ix.{Ix}
 use Rattle.ufl_tree.specs.declared.tree.Op1.{Op1}
 use Rattle.ufl_tree.specs.declared.tree.Op2.{Op2}
@@ -99,6 +99,7 @@ list_kind ks = kind_from (cell_behind None ks) (list_shape ks) (list_free ks)
 abbrev pub is_argument : Role → Bool
 is_argument Test = true
 is_argument Trial = true
+is_argument Position = false
 is_argument (Coefficient n) = false
 
 abbrev mutual

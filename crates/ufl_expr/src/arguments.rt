@@ -14,7 +14,7 @@ fn is_argument(role: Role) -> bool
 {
     match role {
         Role::Test | Role::Trial => true,
-        Role::Coefficient(_) => false,
+        Role::Position | Role::Coefficient(_) => false,
     }
 }
 

@@ -2,14 +2,18 @@
 
 ghost use Rattle.std.specs.Prelude.{◌≡◌, ◌<◌, [], length, map, Some, IfOk, OnErr, OnOk, slice_get};
 ghost use Rattle.std.specs.Option.{option_copied};
+ghost use Rattle.spaces.specs.declared.family.Family.TheVariants.{Lagrange};
+ghost use Rattle.spaces.specs.Space.{scalar};
 ghost use Rattle.spaces.specs.Reading.{space_of, spaces_in};
+ghost use Rattle.ufl_tree.specs.Places.{table_of};
 ghost use Rattle.ufl_expr.specs.Table.{same_cell};
-ghost use Rattle.ufl_expr.specs.Elements.{same_family, same_sizes, same_space, same_spaces, table_of, number_of, with_element};
+ghost use Rattle.ufl_expr.specs.Elements.{position_space, may_have, spaces_of, space_in, same_family, same_sizes, same_space, same_spaces, number_of, with_element};
 
 use spaces::{Cell, Element, ElementTree, Family};
 use sqlite_items::Items;
 use std::alloc::{AllocError, Global};
 use std::marker::Model;
+use ufl_tree::{Function, Role};
 
 /// Distinct elements, numbered from 0.
 #[derive(Drop)]
@@ -136,6 +140,58 @@ fn number_of(tree: &ElementTree, items: &[Element]) -> Option<usize>
     None
 }
 
+/// The linear scalar element on this cell.
+#[tactic(auto, using(spaces::proofs::ReadingLaws::readings))]
+fn is_linear(tree: &ElementTree, cell: Cell) -> bool
+    ensures { result ≡ same_space (space_of tree.now) (scalar Lagrange cell 1) }
+{
+    match tree {
+        ElementTree::Scalar {
+            family,
+            cell: c,
+            degree,
+        } => same_family(*family, Family::Lagrange) && same_cell(*c, cell) && *degree == 1,
+        ElementTree::Vector { .. } => false,
+        ElementTree::Tensor { .. } => false,
+        ElementTree::Mixed { .. } => false,
+    }
+}
+
+/// The element of positions in this cell.
+#[tactic(auto, using(spaces::proofs::ReadingLaws::readings))]
+fn is_position(tree: &ElementTree, cell: Cell) -> bool
+    ensures { result ≡ same_space (space_of tree.now) (position_space cell) }
+{
+    match tree {
+        ElementTree::Scalar { .. } => false,
+        ElementTree::Vector { part, dim } => *dim == cell.dim() && is_linear(part.get(), cell),
+        ElementTree::Tensor { .. } => false,
+        ElementTree::Mixed { .. } => false,
+    }
+}
+
+/// Functions of this role may have the element.
+fn may_have(role: Role, element: &Element) -> bool
+    ensures { result ≡ may_have role (space_of element.now) }
+{
+    match role {
+        Role::Test | Role::Trial | Role::Coefficient(_) => true,
+        Role::Position => is_position(element.tree(), element.cell()),
+    }
+}
+
+/// The number of the element of positions in this cell.
+fn position_in(cell: Cell, items: &[Element]) -> Option<usize>
+    ensures { result ≡ number_of (position_space cell) (table_of items.now) }
+{
+    for number in 0..items.len() {
+        if is_position(items[number].tree(), cell) {
+            return Some(number);
+        }
+    }
+    None
+}
+
 impl Elements {
     /// No elements.
     pub fn new(alloc: Global) -> Elements
@@ -151,6 +207,28 @@ impl Elements {
         ensures { option_copied result ≡ slice_get self.now number }
     {
         self.items.get(number as usize)
+    }
+
+    /// The element of a function, or `None` exactly where there is none of its number, or the function is a position and may not have it.
+    pub(crate) fn element_of(&self, f: Function) -> Option<&Element>
+        ensures { spaces_of (option_copied result) ≡ space_in (table_of self.now) f }
+    {
+        let element = self.get(f.element)?;
+        if may_have(f.role, element) {
+            Some(element)
+        } else {
+            None
+        }
+    }
+
+    /// The number of the element of positions in this cell, which is the Lagrange vector element of degree 1.
+    pub(crate) fn position(&self, cell: Cell) -> Option<u16>
+        ensures { result ≡ number_of (position_space cell) (table_of self.now) }
+    {
+        match position_in(cell, self.items.as_slice()) {
+            None => None,
+            Some(number) => Some(number as u16),
+        }
     }
 
     /// The number of the equal element, which is added behind the others where there is none yet.

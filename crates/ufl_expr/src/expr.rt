@@ -1,14 +1,15 @@
 //! Expressions and their builders.
 
-ghost use Rattle.std.specs.Prelude.{◌≡◌, ◌≤◌, IfOk, Ok, length, map, max};
+ghost use Rattle.std.specs.Prelude.{◌≡◌, ◌≤◌, IfOk, Ok, length, map};
 ghost use Rattle.ufl_tree.specs.Reading.{typed_of, typed_list, kind_of, tree_with};
+ghost use Rattle.ufl_tree.specs.Places.{table_of};
 ghost use Rattle.ufl_expr.specs.Answer.{Gives};
 ghost use Rattle.ufl_expr.specs.Sizes.{nodes_of, height_of};
 ghost use Rattle.ufl_expr.specs.Table.{IsTyped, plain_kind, identity_kind, one_kind, two_kind, power_kind, index_kind, partial_kind, tensor_kind, variable_kind, has_argument, label_of, list_kind};
-ghost use Rattle.ufl_expr.specs.Elements.{table_of, function_in, piece_in};
+ghost use Rattle.ufl_expr.specs.Elements.{position_space, number_of, function_in, piece_in};
 ghost use Rattle.ufl_expr.specs.Extent.{IsExtent};
 ghost use Rattle.ufl_expr.specs.Signatures.{kind_in};
-ghost use Rattle.ufl_expr.specs.Building.{built, diff_by};
+ghost use Rattle.ufl_expr.specs.Building.{built, diff_by, positioned};
 
 use crate::arguments::label_of;
 use crate::elements::Elements;
@@ -25,7 +26,7 @@ use spaces::Cell;
 use sqlite_items::{Boxed, Items};
 use std::alloc::{AllocError, Global};
 use std::marker::Model;
-use ufl_tree::{Free, Function, Ix, Node, Op1, Op2, Tree};
+use ufl_tree::{Free, Function, Ix, Node, Op1, Op2, Role, Tree};
 
 /// Most nodes of an expression.
 const MOST_NODES: u32 = 10_000;
@@ -83,13 +84,6 @@ fn finish(node: Node, signature: Signature, nodes: u32, height: u32) -> Result<E
     })
 }
 
-/// The height of what stands over both.
-fn larger(height: u32, other: u32) -> u32
-    ensures { result ≡ max height other }
-{
-    if height < other { other } else { height }
-}
-
 /// The nodes of several trees together, and the height of the highest.
 struct Extent {
     nodes: u32,
@@ -107,7 +101,7 @@ fn extent_of(items: &[Expr]) -> Extent
     let mut height: u32 = 0;
     for item in items {
         nodes += item.nodes;
-        height = larger(height, item.height);
+        height = height.max(item.height);
     }
     Extent { nodes, height }
 }
@@ -129,6 +123,8 @@ impl Expr {
     pub fn tree(&self) -> &Tree
         ensures same { result.now ≡ self.now }
         ensures typed { IsTyped (typed_of self.now) }
+        ensures few { nodes_of (typed_of self.now) ≤ 10000 }
+        ensures flat { height_of (typed_of self.now) ≤ 128 }
     {
         &self.tree
     }
@@ -208,12 +204,28 @@ impl Expr {
         finish(Node::Identity(n), signature, 1, 1)
     }
 
-    /// A function of an element in the table, with its shape and cell. `Kind` exactly where there is no such element.
+    /// A function of an element in the table, with its shape and cell. `Kind` exactly where there is no such element, or f is a position
+    /// whose element isn't that of `position`.
     pub fn function(alloc: Global, f: Function, elements: &Elements) -> Result<Expr, TypeRefusal>
         ensures { Gives result (built (function_in (table_of elements.now) f) (Node.Fun f)) }
     {
         let signature = function_signature(alloc, f, elements)?;
         finish(Node::Fun(f), signature, 1, 1)
+    }
+
+    /// The position in a cell, a vector of the cell's dimension. `Kind` exactly where its element, the Lagrange vector element of degree 1 on
+    /// the cell, isn't in the table.
+    pub fn position(alloc: Global, cell: Cell, elements: &Elements) -> Result<Expr, TypeRefusal>
+        ensures { Gives result (positioned cell (number_of (position_space cell) (table_of elements.now))) }
+    {
+        let Some(element) = elements.position(cell) else {
+            return Err(TypeRefusal::Kind);
+        };
+        let f = Function {
+            role: Role::Position,
+            element,
+        };
+        Expr::function(alloc, f, elements)
     }
 
     /// The sub-element `which` of a function of a mixed element in the table, with its shape and cell. `Kind` exactly where there is none.
@@ -261,7 +273,7 @@ impl Expr {
         } = b;
         let signature = two_signature(alloc, op, &left, &right)?;
         let node = Node::Two(op, Boxed::new(alloc, left)?, Boxed::new(alloc, right)?);
-        finish(node, signature, m + n + 1, larger(h, k) + 1)
+        finish(node, signature, m + n + 1, h.max(k) + 1)
     }
 
     /// A power of a scalar, else `Shape`, without free indices, else `FreeIndex`.

@@ -2,9 +2,9 @@
 
 ghost use Rattle.std.specs.Prelude.{◌≡◌, IfOk};
 ghost use Rattle.spaces.specs.Reading.{space_of};
-ghost use Rattle.ufl_tree.specs.Places.{element_shape};
+ghost use Rattle.ufl_tree.specs.Places.{table_of, element_shape};
 ghost use Rattle.ufl_expr.specs.Answer.{Gives};
-ghost use Rattle.ufl_expr.specs.Elements.{table_of, function_in};
+ghost use Rattle.ufl_expr.specs.Elements.{function_in};
 ghost use Rattle.ufl_expr.specs.Signatures.{kinds};
 
 use crate::elements::Elements;
@@ -28,7 +28,7 @@ fn element_shape(alloc: Global, element: &Element) -> Result<Items<u8>, AllocErr
     }
 }
 
-/// Of a function of an element in the table. `Kind` exactly where there is no such element.
+/// Of a function of an element in the table. `Kind` exactly where there is no such element, or f is a position and has another one than positions have.
 pub(crate) fn function_signature(
     alloc: Global,
     f: Function,
@@ -36,7 +36,7 @@ pub(crate) fn function_signature(
 ) -> Result<Signature, TypeRefusal>
     ensures { Gives (kinds result) (function_in (table_of elements.now) f) }
 {
-    match elements.get(f.element) {
+    match elements.element_of(f) {
         None => Err(TypeRefusal::Kind),
         Some(element) => Ok(Signature {
             shape: element_shape(alloc, element)?,

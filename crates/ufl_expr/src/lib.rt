@@ -7,9 +7,9 @@
 mod arguments;
 mod elements;
 mod expr;
-mod fitting;
 mod frees;
 mod functions;
+pub mod laws;
 mod lists;
 mod pieces;
 mod refusal;
@@ -20,5 +20,4 @@ mod tests;
 
 pub use elements::Elements;
 pub use expr::Expr;
-pub use fitting::fitting_law;
 pub use refusal::TypeRefusal;

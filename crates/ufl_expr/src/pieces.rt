@@ -4,9 +4,9 @@ ghost use Rattle.std.specs.Prelude.{◌≡◌, IfOk, Some, length};
 ghost use Rattle.spaces.specs.Reading.{space_of, spaces_in};
 ghost use Rattle.spaces.specs.Space.{IsLawful, scalars, scalars_of};
 ghost use Rattle.ufl_expr.specs.Few.{AreFew};
-ghost use Rattle.ufl_tree.specs.Places.{element_shape, piece_of};
+ghost use Rattle.ufl_tree.specs.Places.{table_of, element_shape, piece_of};
 ghost use Rattle.ufl_expr.specs.Answer.{Gives};
-ghost use Rattle.ufl_expr.specs.Elements.{table_of, piece_kind, piece_in};
+ghost use Rattle.ufl_expr.specs.Elements.{piece_kind, piece_in};
 ghost use Rattle.ufl_expr.specs.Signatures.{kinds};
 
 use crate::elements::Elements;
@@ -85,7 +85,7 @@ pub(crate) fn piece_signature(
 ) -> Result<Signature, TypeRefusal>
     ensures { Gives (kinds result) (piece_in (table_of elements.now) f which) }
 {
-    match elements.get(f.element) {
+    match elements.element_of(f) {
         None => Err(TypeRefusal::Kind),
         Some(element) => part_signature(alloc, element, which),
     }

@@ -2,7 +2,8 @@
 
 ghost use Rattle.std.specs.Prelude.{◌≡◌, ◌++◌, ◌∷◌, [], IfOk, Ok};
 ghost use Rattle.ufl_expr.specs.Answer.{Gives};
-ghost use Rattle.ufl_expr.specs.Shapes.{shape_if, same_shape, is_scalar, is_vector, is_square, first_of, last_of, all_but_first, all_but_last, same_size, grad_shape, nabla_grad_shape, div_shape, nabla_div_shape, curl_shape, transposed, one_shape, dot_shape, product_shape, two_shape, dimension_of, in_dimension, is_within, rest_shape, along_shape};
+ghost use Rattle.ufl_tree.specs.Indices.{all_but_first};
+ghost use Rattle.ufl_expr.specs.Shapes.{shape_if, same_shape, is_scalar, is_vector, is_square, first_of, last_of, all_but_last, same_size, grad_shape, nabla_grad_shape, div_shape, nabla_div_shape, curl_shape, transposed, one_shape, dot_shape, product_shape, two_shape, dimension_of, in_dimension, is_within, rest_shape, along_shape};
 
 use crate::refusal::TypeRefusal;
 use spaces::Cell;
@@ -74,7 +75,10 @@ fn last_of(shape: &[u8]) -> Option<u8>
 fn all_but_first(shape: &[u8]) -> &[u8]
     ensures { result.now ≡ all_but_first shape.now }
 {
-    if shape.is_empty() { shape } else { &shape[1..] }
+    match shape.split_first() {
+        None => shape,
+        Some((_, rest)) => rest,
+    }
 }
 
 fn all_but_last(shape: &[u8]) -> &[u8]

@@ -275,7 +275,14 @@ const FLOW: Of = Of::Vector(Role::Coefficient(3), Cell::Triangle);
 
 const SPACE: Of = Of::Vector(Role::Trial, Cell::Tetrahedron);
 
-const FUNCTIONS: [(Of, Step, Wanted); 17] = [
+const PLACE: Of = Of::Vector(Role::Position, Cell::Triangle);
+
+const NO_PLACE: Of = Of::Scalar(Role::Position, Cell::Triangle);
+
+const FUNCTIONS: [(Of, Step, Wanted); 20] = [
+    (PLACE, Step::One(Op1::Grad), Ok(&[2, 2])),
+    (PLACE, Step::Label, Ok(&[2])),
+    (NO_PLACE, Step::Label, KIND),
     (FLAT, Step::One(Op1::Grad), Ok(&[2])),
     (FLOW, Step::One(Op1::Grad), Ok(&[2, 2])),
     (SPACE, Step::One(Op1::NablaGrad), Ok(&[3, 3])),
@@ -308,6 +315,41 @@ fn first_other_function(alloc: Global, cases: &[(Of, Step, Wanted)]) -> Option<O
 #[test]
 fn functions(rt: HostRuntime) {
     assert!(rt; first_other_function(rt.alloc(), &FUNCTIONS).is_none());
+}
+
+/// The position in a cell, with an element in the table.
+fn position(alloc: Global, cell: Cell, element: Option<Element>) -> Result<Expr, TypeRefusal> {
+    let mut elements = Elements::new(alloc);
+    if let Some(element) = element {
+        elements.add(element)?;
+    }
+    Expr::position(alloc, cell, &elements)
+}
+
+#[test]
+fn positions(rt: HostRuntime) {
+    let alloc = rt.alloc();
+    let tetrahedron = Cell::Tetrahedron;
+    assert!(rt;
+        gives(
+            position(alloc, Cell::Interval, vector(alloc, Cell::Interval)),
+            Ok(&[1])
+        )
+    );
+    assert!(rt;
+        gives(
+            position(alloc, tetrahedron, vector(alloc, tetrahedron)),
+            Ok(&[3])
+        )
+    );
+    assert!(rt;
+        gives(
+            position(alloc, tetrahedron, vector(alloc, Cell::Triangle)),
+            KIND
+        )
+    );
+    assert!(rt; gives(position(alloc, tetrahedron, scalar(tetrahedron)), KIND));
+    assert!(rt; gives(position(alloc, tetrahedron, None), KIND));
 }
 
 /// Functions on different cells.

@@ -3,7 +3,7 @@ use Rattle.std.proofs.Common.{◌≡◌, ℕ, zero, suc, false, List, [], ◌∷
 use Rattle.spaces.specs.declared.cell.Cell.{Cell}
 use Rattle.spaces.specs.declared.element_tree.ElementTree.{ElementTree}
 use Rattle.spaces.specs.Reading.{space_of}
-use Rattle.ufl_expr.specs.Elements.{table_of}
+use Rattle.ufl_tree.specs.Places.{table_of}
 use Rattle.ufl_form.specs.Table.{varies_on}
 
 space_at : (es : List ElementTree) (k : ℕ) (e : ElementTree) → slice_get es k ≡ Some e → slice_get (table_of es) k ≡ Some (space_of e)

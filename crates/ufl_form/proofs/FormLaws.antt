@@ -5,8 +5,9 @@ use Rattle.std.specs.Result.{IsErr, IsErrAnd}
 use Rattle.ratio.specs.declared.reduced.Ratio.{Ratio}
 use Rattle.ufl_tree.specs.declared.tree.Tree.{Tree}
 use Rattle.ufl_tree.specs.declared.function.Function.{Function}
+use Rattle.ufl_tree.specs.declared.function.On.{On}
 use Rattle.ufl_tree.specs.declared.function.Role.{Role}
-use Rattle.ufl_tree.specs.declared.function.Role.TheVariants.{Test, Trial, Coefficient}
+use Rattle.ufl_tree.specs.declared.function.Role.TheVariants.{Test, Trial, Position, Coefficient}
 use Rattle.ufl_tree.specs.Places.{Table}
 use Rattle.ufl_tree.specs.Typed.{Kind}
 use Rattle.spaces.specs.declared.cell.Cell.{Cell}
@@ -15,7 +16,7 @@ use Rattle.ufl_tree.specs.FormTerm.{FormTerm, integral, sum, scale, left, right,
 use Rattle.ufl_expr.specs.declared.refusal.TypeRefusal.{TypeRefusal}
 use Rattle.ufl_expr.specs.declared.refusal.TypeRefusal.TheVariants.{Kind as OfKind}
 use Rattle.ufl_expr.specs.Shapes.{is_scalar}
-use Rattle.ufl_expr.proofs.BuildingLaws.{own_kind-typed_of}
+use Rattle.ufl_tree.proofs.KindLaws.{own_kind-typed_of}
 use Rattle.ufl_form.specs.declared.arguments.Arguments.{Arguments}
 use Rattle.ufl_form.specs.Arguments.{tree_arguments}
 use Rattle.ufl_expr.specs.Sizes.{nodes_of, height_of}
@@ -43,7 +44,7 @@ pub described_kept : (f : FormTerm) (k l : FormKind) (p q : PatternSet) (n h i :
 described_kept f k l p q n h i a b c D =
     record { typed = D.typed; kind = D.kind ∙ ap (λ x. Ok x) (sym a); patterns = b ∙ D.patterns; count = D.count; depth = c ∙ D.depth }
 
-pub described_integral : (m : ℕ) (e : Tree) (k : FormKind) (p : PatternSet) (n h : ℕ) → IsTyped (typed_of e) → integral_kind (typed_of e) ≡ Ok k
+pub described_integral : (m : On) (e : Tree) (k : FormKind) (p : PatternSet) (n h : ℕ) → IsTyped (typed_of e) → integral_kind (typed_of e) ≡ Ok k
     → p ≡ tree_patterns (typed_of e) → n ≡ nodes_of (typed_of e) → h ≡ height_of (typed_of e) → IsDescribed (form_of (v.Integral m e)) k p (n + 1) (h + 1)
 unfolding AreTyped form_kind form_nodes form_height
 described_integral m e k p n h typed kind patterns count depth =
@@ -125,7 +126,7 @@ unfolding form_kind
 sum_refused s t k l p q m n h i r is C D =
     formed_refused _ (sum (form_of s) (form_of t)) r (form_of-Sum s t) (further_both (form_kind (form_of s)) (form_kind (form_of t)) k l C.kind D.kind ∙ is)
 
-pub integral_refused : (m : ℕ) (e : Tree) (r : TypeRefusal) → integral_kind (typed_of e) ≡ Err r → formed (v.Integral m e) ≡ Err r
+pub integral_refused : (m : On) (e : Tree) (r : TypeRefusal) → integral_kind (typed_of e) ≡ Err r → formed (v.Integral m e) ≡ Err r
 unfolding form_kind
 integral_refused m e r h = formed_refused _ (integral m (typed_of e)) r (form_of-Integral m e) h
 
@@ -133,9 +134,11 @@ integral_refused m e r h = formed_refused _ (integral m (typed_of e)) r (form_of
 last_holds : (b c : Bool) (r : Role) → (if b then Ok Trial else if c then Ok Test else Err OfKind) ≡ Ok r → is_last r (if b then Ok Trial else if c then Ok Test else Err OfKind) ≡ true
 last_holds true c Trial h = refl
 last_holds true c Test h = cc
+last_holds true c Position h = cc
 last_holds true c (Coefficient n) h = cc
 last_holds false true Trial h = cc
 last_holds false true Test h = refl
+last_holds false true Position h = cc
 last_holds false true (Coefficient n) h = cc
 last_holds false false r h = cc
 

@@ -1,7 +1,8 @@
 -- What the code's forms are read as, one equation for each variant
-use Rattle.std.proofs.Common.{◌≡◌, ℕ, sym, ap, ◌∙◌}
+use Rattle.std.proofs.Common.{◌≡◌, sym, ap, ◌∙◌}
 use Rattle.ratio.specs.declared.reduced.Ratio.{Ratio}
 use Rattle.ufl_tree.specs.declared.function.Function.{Function}
+use Rattle.ufl_tree.specs.declared.function.On.{On}
 use Rattle.ufl_tree.specs.declared.function.Role.{Role}
 use Rattle.ufl_tree.specs.declared.tree.Tree.{Tree}
 use Rattle.ufl_tree.specs.Reading.{typed_of}
@@ -12,7 +13,7 @@ use Rattle.ufl_form.specs.declared.form_tree.FormTree.TheFolds.{fold-FormTree, f
 use Rattle.ufl_form.specs.declared.form_tree.FormTree.TheVariants as v
 use Rattle.ufl_form.specs.Reading.{form_of, form_layer}
 
-pub form_of-Integral : (m : ℕ) (e : Tree) → form_of (v.Integral m e) ≡ integral m (typed_of e)
+pub form_of-Integral : (m : On) (e : Tree) → form_of (v.Integral m e) ≡ integral m (typed_of e)
 unfolding form_of
 form_of-Integral m e = ap (fold-FormTree FormTerm form_layer) (sym (v.rolls-Integral m e)) ∙ fold-roll-FormTree FormTerm form_layer (FormTree-F.Integral m e)
 

@@ -6,3 +6,4 @@ pub mod DirectionLaws
 pub mod FormReadings
 pub mod FormLaws
 pub mod FitLaws
+pub mod CellLaws

@@ -2,7 +2,8 @@
 use Rattle.std.proofs.Common.{◌≡◌, ◌+◌, ◌≤◌, Bool, true, false, if◌then◌else◌, List, [], ◌∷◌, ◌++◌, length, length-append, arith, subst, sym}
 use Rattle.spaces.specs.declared.element_tree.ElementTree.{ElementTree}
 use Rattle.spaces.specs.Reading.{space_of}
-use Rattle.ufl_expr.specs.Elements.{table_of, has_space, with_element}
+use Rattle.ufl_tree.specs.Places.{table_of}
+use Rattle.ufl_expr.specs.Elements.{has_space, with_element}
 
 grown : (b : Bool) (e : ElementTree) (ts : List ElementTree) → length (if b then ts else ts ++ e ∷ []) ≤ length ts + 1
 grown true e ts = omega arith

@@ -2,7 +2,7 @@
 use Rattle.std.specs.Prelude.{ℕ, ◌==◌, if◌then◌else◌, Option, None, Some}
 use Rattle.ufl_tree.specs.declared.function.Function.{Function}
 use Rattle.ufl_tree.specs.declared.function.Role.{Role}
-use Rattle.ufl_tree.specs.declared.function.Role.TheVariants.{Test, Trial, Coefficient}
+use Rattle.ufl_tree.specs.declared.function.Role.TheVariants.{Test, Trial, Position, Coefficient}
 use Rattle.ufl_tree.specs.Typed.{Typed, number, identity, function, piece, one, two, power, index, partial, tensor, list, variable, diff, TypedList, no_items, item}
 use Rattle.ufl_form.specs.declared.arguments.Arguments.{Arguments}
 
@@ -12,6 +12,7 @@ no_arguments = record { test = None; trial = None }
 abbrev pub argument_in : Role → ℕ → Arguments
 argument_in Test e = record { test = Some e; trial = None }
 argument_in Trial e = record { test = None; trial = Some e }
+argument_in Position e = no_arguments
 argument_in (Coefficient n) e = no_arguments
 
 -- a function alone

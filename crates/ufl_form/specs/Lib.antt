@@ -8,3 +8,4 @@ pub mod Sizes
 pub mod Building
 pub mod Fits
 pub mod Invariant
+pub mod Numbered

@@ -1,7 +1,7 @@
 -- Pattern sets: how many test and how many trial functions the terms have as factors, each number 0, 1 or "2 or more"
 use Rattle.std.specs.Prelude.{ℕ, zero, suc, Bool, true, false, if◌then◌else◌}
 use Rattle.ufl_tree.specs.declared.function.Role.{Role}
-use Rattle.ufl_tree.specs.declared.function.Role.TheVariants.{Test, Trial, Coefficient}
+use Rattle.ufl_tree.specs.declared.function.Role.TheVariants.{Test, Trial, Position, Coefficient}
 use Rattle.ufl_tree.specs.declared.tree.Op2.{Op2}
 use Rattle.ufl_tree.specs.declared.tree.Op2.TheVariants.{Sum, Product, Dot, Inner, Outer, Cross}
 use Rattle.ufl_tree.specs.Typed.{Typed, number, identity, function, piece, one, two, power, index, partial, tensor, list, variable, diff, TypedList, no_items, item}
@@ -73,6 +73,7 @@ raised a (suc n) = product (raised a n) a
 abbrev pub of_role : Role → PatternSet
 of_role Test = record { zero = no_numbers; one = record { zero = true; one = false; more = false }; more = no_numbers }
 of_role Trial = record { zero = record { zero = false; one = true; more = false }; one = no_numbers; more = no_numbers }
+of_role Position = only_pair
 of_role (Coefficient n) = only_pair
 
 -- those with trial number 1; those with 0
@@ -92,6 +93,7 @@ without_trial a = record { zero = forgotten a.zero; one = forgotten a.one; more 
 abbrev pub without : Role → PatternSet → PatternSet
 without Test a = without_test a
 without Trial a = without_trial a
+without Position a = a
 without (Coefficient n) a = a
 
 -- both numbers exchanged

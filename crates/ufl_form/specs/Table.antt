@@ -1,6 +1,6 @@
 -- The typing table of forms: the cell of a form and the elements of its arguments, from those of its operands, or why there is no such form.
 -- Source: M. Alnaes and others, Unified Form Language, ACM TOMS 40 (2014), sections 3 and 5
-use Rattle.std.specs.Prelude.{ℕ, ◌==◌, Bool, true, false, if◌then◌else◌, List, [], ◌∷◌, Option, None, Some, Result, Ok, Err, slice_get}
+use Rattle.std.specs.Prelude.{ℕ, ◌==◌, ◌&&◌, Bool, true, false, if◌then◌else◌, List, [], ◌∷◌, Option, None, Some, Result, Ok, Err, slice_get}
 use Rattle.spaces.specs.declared.cell.Cell.{Cell}
 use Rattle.spaces.specs.declared.family.Family.{Family}
 use Rattle.spaces.specs.declared.family.Family.TheVariants.{Real}
@@ -8,7 +8,7 @@ use Rattle.spaces.specs.Space.{Space, scalar, vector, tensor, mixed, cell_of}
 use Rattle.ufl_tree.specs.declared.function.Free.{Free}
 use Rattle.ufl_tree.specs.declared.function.Function.{Function}
 use Rattle.ufl_tree.specs.declared.function.Role.{Role}
-use Rattle.ufl_tree.specs.declared.function.Role.TheVariants.{Test, Trial, Coefficient}
+use Rattle.ufl_tree.specs.declared.function.Role.TheVariants.{Test, Trial, Position, Coefficient}
 use Rattle.ufl_tree.specs.Typed.{Typed, own_kind, shape_of, free_of}
 use Rattle.ufl_tree.specs.FormTerm.{FormTerm, integral, sum, scale, left, right, action, adjoint, derivative}
 use Rattle.ufl_tree.specs.Places.{Table}
@@ -78,10 +78,16 @@ abbrev pub is_coefficient : Role → Bool
 is_coefficient (Coefficient n) = true
 is_coefficient _ = false
 
+-- an argument or a coefficient
+abbrev pub is_direction : Role → Bool
+is_direction Position = false
+is_direction _ = true
+
 -- the element of an argument
 abbrev pub element_of : Role → Arguments → Option ℕ
 element_of Test a = a.test
 element_of Trial a = a.trial
+element_of Position a = None
 element_of (Coefficient n) a = None
 
 abbrev pub has_element : Option ℕ → ℕ → Bool
@@ -91,6 +97,7 @@ has_element (Some a) e = a == e
 abbrev pub dropped : Role → Arguments → Arguments
 dropped Test a = record { test = None; trial = a.trial }
 dropped Trial a = record { test = a.test; trial = None }
+dropped Position a = a
 dropped (Coefficient n) a = a
 
 -- a coefficient of the argument's element in its place
@@ -110,10 +117,11 @@ abbrev pub last_kind : Bool → Verdict → Verdict
 last_kind true v = v
 last_kind false v = Err OfKind
 
--- w is a coefficient, and du, which may be an argument, is of the same element
+-- w is a coefficient, and du, an argument or a coefficient, is of the same element
 abbrev pub derivative_kind : FormKind → Function → Function → Verdict
 derivative_kind a w du =
-    if is_coefficient w.role then (if w.element == du.element then with_arguments a.cell (joined a.arguments (argument du)) else Err OfKind)
+    if is_coefficient w.role && is_direction du.role then
+    (if w.element == du.element then with_arguments a.cell (joined a.arguments (argument du)) else Err OfKind)
     else Err OfKind
 
 -- one value for the whole mesh
@@ -149,6 +157,14 @@ form_kind (right f) = further (form_kind f) (λ a. Ok (right_kind a))
 form_kind (action f last g) = further (form_kind f) (λ a. last_kind (is_last last (last_of (form_patterns f))) (action_kind a last g))
 form_kind (adjoint f) = further (form_kind f) (λ a. Ok (adjoint_kind a))
 form_kind (derivative f w du) = further (form_kind f) (λ a. derivative_kind a w du)
+
+-- the cell of a form that the table allows
+abbrev pub verdict_cell : Verdict → Option Cell
+verdict_cell (Err r) = None
+verdict_cell (Ok k) = Some k.cell
+
+abbrev pub form_cell : FormTerm → Option Cell
+form_cell f = verdict_cell (form_kind f)
 
 -- each integrand obeys its own table
 unfoldable pub AreTyped : FormTerm → Type 0

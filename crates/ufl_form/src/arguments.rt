@@ -38,7 +38,7 @@ impl Arguments {
                 test: None,
                 trial: Some(f.element),
             },
-            Role::Coefficient(_) => Arguments::none(),
+            Role::Position | Role::Coefficient(_) => Arguments::none(),
         }
     }
 }

@@ -1,8 +1,8 @@
 //! Forms and their builders.
 
-ghost use Rattle.std.specs.Prelude.{◌≡◌, ◌≤◌, IfOk, IsOk, max};
+ghost use Rattle.std.specs.Prelude.{◌≡◌, ◌≤◌, IfOk, IsOk};
 ghost use Rattle.ufl_expr.specs.Answer.{Gives};
-ghost use Rattle.ufl_expr.specs.Elements.{table_of};
+ghost use Rattle.ufl_tree.specs.Places.{table_of};
 ghost use Rattle.ufl_form.specs.Reading.{form_of};
 ghost use Rattle.ufl_form.specs.Sizes.{form_nodes, form_height};
 ghost use Rattle.ufl_form.specs.Table.{AreTyped, form_kind, form_patterns, last_of, element_of};
@@ -21,7 +21,7 @@ use sqlite_items::Boxed;
 use std::alloc::{AllocError, Global};
 use std::marker::Model;
 use ufl_expr::{Elements, Expr, TypeRefusal};
-use ufl_tree::{Function, Role};
+use ufl_tree::{Function, On, Role};
 
 /// Most nodes of a form.
 const MOST_NODES: u32 = 10_000;
@@ -80,13 +80,6 @@ fn finish(
     })
 }
 
-/// The height of what stands over both.
-fn larger(height: u32, other: u32) -> u32
-    ensures { result ≡ max height other }
-{
-    if height < other { other } else { height }
-}
-
 impl Form {
     /// The tree.
     pub fn tree(&self) -> &FormTree
@@ -142,17 +135,17 @@ impl Form {
         })
     }
 
-    /// The integral over the cells with this marker. `Kind` exactly where no function occurs or an argument has two elements, then `Shape`
+    /// The integral over these cells. `Kind` exactly where no function occurs or an argument has two elements, then `Shape`
     /// exactly where the integrand is no scalar, then `FreeIndex` exactly where it has a free index.
-    pub fn integral(marker: u32, body: Expr) -> Result<Form, TypeRefusal>
-        ensures { result ≡ formed (FormTree.Integral marker body) }
+    pub fn integral(on: On, body: Expr) -> Result<Form, TypeRefusal>
+        ensures { result ≡ formed (FormTree.Integral on body) }
     {
         let kind = integral_kind(&body)?;
         let patterns = tree_patterns(body.tree());
         let nodes = body.nodes() + 1;
         let height = body.height() + 1;
         finish(
-            FormTree::Integral { marker, body },
+            FormTree::Integral { on, body },
             kind,
             patterns,
             nodes,
@@ -180,7 +173,7 @@ impl Form {
         } = b;
         let kind = sum_kind(kind, other)?;
         let tree = FormTree::Sum(Boxed::new(alloc, left)?, Boxed::new(alloc, right)?);
-        finish(tree, kind, p.united(q), m + n + 1, larger(h, k) + 1)
+        finish(tree, kind, p.united(q), m + n + 1, h.max(k) + 1)
     }
 
     /// The form times a number.

@@ -6,14 +6,14 @@ use ratio::Ratio;
 use sqlite_items::Boxed;
 use std::alloc::{AllocError, Global};
 use ufl_expr::Expr;
-use ufl_tree::{Function, Role};
+use ufl_tree::{Function, On, Role};
 
 /// A form as it is written.
 #[derive(Drop)]
 pub enum FormTree {
-    /// The integral over the cells with this marker.
+    /// The integral over these cells.
     Integral {
-        marker: u32,
+        on: On,
         body: Expr,
     },
     Sum(Boxed<FormTree>, Boxed<FormTree>),
@@ -44,8 +44,8 @@ pub(crate) fn copy_form(alloc: Global, form: &FormTree) -> Result<FormTree, Allo
     ensures { IfOk result (λ r. r ≡ form.now) }
 {
     match form {
-        FormTree::Integral { marker, body } => Ok(FormTree::Integral {
-            marker: *marker,
+        FormTree::Integral { on, body } => Ok(FormTree::Integral {
+            on: *on,
             body: body.copy(alloc)?,
         }),
         FormTree::Sum(a, b) => Ok(FormTree::Sum(copy_part(alloc, a)?, copy_part(alloc, b)?)),

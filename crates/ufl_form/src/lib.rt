@@ -7,7 +7,7 @@
 mod arguments;
 mod form;
 mod form_tree;
-mod laws;
+pub mod laws;
 mod pattern_set;
 mod table;
 #[cfg(test)]
@@ -16,5 +16,4 @@ mod tree_patterns;
 
 pub use form::{Form, patterns};
 pub use form_tree::FormTree;
-pub use laws::{fitting_law, product_law};
 pub use pattern_set::{Numbers, PatternSet};

@@ -206,7 +206,7 @@ impl PatternSet {
                 one: Numbers::none(),
                 more: Numbers::none(),
             },
-            Role::Coefficient(_) => PatternSet::unit(),
+            Role::Position | Role::Coefficient(_) => PatternSet::unit(),
         }
     }
 
@@ -261,7 +261,7 @@ impl PatternSet {
         match role {
             Role::Test => self.without_test(),
             Role::Trial => self.without_trial(),
-            Role::Coefficient(_) => self,
+            Role::Position | Role::Coefficient(_) => self,
         }
     }
 

@@ -4,9 +4,9 @@ ghost use Rattle.std.specs.Prelude.{◌≡◌, Some, slice_get};
 ghost use Rattle.spaces.specs.Reading.{space_of};
 ghost use Rattle.ufl_tree.specs.Reading.{typed_of};
 ghost use Rattle.ufl_expr.specs.Shapes.{is_scalar};
-ghost use Rattle.ufl_expr.specs.Elements.{table_of};
+ghost use Rattle.ufl_tree.specs.Places.{table_of};
 ghost use Rattle.ufl_expr.specs.Table.{same_cell};
-ghost use Rattle.ufl_form.specs.Table.{no_free, integral_from, integral_kind, with_arguments, sum_kind, right_kind, adjoint_kind, is_coefficient, element_of, has_element, dropped, action_kind, derivative_kind, last_of, is_real, is_constant, varies_on, turned_kind};
+ghost use Rattle.ufl_form.specs.Table.{no_free, integral_from, integral_kind, with_arguments, sum_kind, right_kind, adjoint_kind, is_coefficient, is_direction, element_of, has_element, dropped, action_kind, derivative_kind, last_of, is_real, is_constant, varies_on, turned_kind};
 
 use crate::arguments::{Arguments, joined, tree_arguments};
 use crate::pattern_set::PatternSet;
@@ -130,7 +130,7 @@ fn is_coefficient(role: Role) -> bool
     ensures { result ≡ is_coefficient role }
 {
     match role {
-        Role::Test | Role::Trial => false,
+        Role::Test | Role::Trial | Role::Position => false,
         Role::Coefficient(_) => true,
     }
 }
@@ -155,7 +155,7 @@ pub(crate) fn element_of(role: Role, arguments: Arguments) -> Option<u16>
     match role {
         Role::Test => arguments.test,
         Role::Trial => arguments.trial,
-        Role::Coefficient(_) => None,
+        Role::Position | Role::Coefficient(_) => None,
     }
 }
 
@@ -181,7 +181,7 @@ fn dropped(role: Role, arguments: Arguments) -> Arguments
             test: arguments.test,
             trial: None,
         },
-        Role::Coefficient(_) => arguments,
+        Role::Position | Role::Coefficient(_) => arguments,
     }
 }
 
@@ -201,11 +201,24 @@ pub(crate) fn action_kind(a: FormKind, last: Role, f: Function) -> Result<FormKi
     })
 }
 
+/// An argument or a coefficient.
+fn is_direction(role: Role) -> bool
+    ensures { result ≡ is_direction role }
+{
+    match role {
+        Role::Test | Role::Trial | Role::Coefficient(_) => true,
+        Role::Position => false,
+    }
+}
+
 /// Of the derivative by w in the direction du.
 fn derivative_kind(a: FormKind, w: Function, du: Function) -> Result<FormKind, TypeRefusal>
     ensures { result ≡ derivative_kind a w du }
 {
-    if !is_coefficient(w.role) || w.element != du.element {
+    if !is_coefficient(w.role) || !is_direction(du.role) {
+        return Err(TypeRefusal::Kind);
+    }
+    if w.element != du.element {
         return Err(TypeRefusal::Kind);
     }
     with_arguments(a.cell, joined(a.arguments, Arguments::of(du)))

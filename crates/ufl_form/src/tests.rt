@@ -7,7 +7,7 @@ use ratio::Ratio;
 use spaces::{Cell, Element, Family};
 use std::alloc::Global;
 use ufl_expr::{Elements, Expr, TypeRefusal};
-use ufl_tree::{Function, Ix, Op1, Op2, Role};
+use ufl_tree::{Function, Ix, On, Op1, Op2, Role};
 
 const V: Function = Function {
     role: Role::Test,
@@ -49,6 +49,11 @@ const CONSTANT: Function = Function {
 const VECTOR_CONSTANT: Function = Function {
     role: Role::Coefficient(4),
     element: 4,
+};
+
+const PLACE: Function = Function {
+    role: Role::Position,
+    element: 0,
 };
 
 const UNKNOWN: Function = Function {
@@ -173,7 +178,7 @@ fn integrand(alloc: Global, body: Body) -> Result<Expr, TypeRefusal> {
 }
 
 fn integral(alloc: Global, body: Body) -> Result<Form, TypeRefusal> {
-    Form::integral(0, integrand(alloc, body)?)
+    Form::integral(On::All, integrand(alloc, body)?)
 }
 
 fn stepped(alloc: Global, form: Form, step: Step) -> Result<Form, TypeRefusal> {
@@ -315,7 +320,8 @@ const PARTS: [(Body, Step, Wanted); 10] = [
     (HIGHEST, Step::Adjoint, NODES),
 ];
 
-const ACTIONS: [(Body, Step, Wanted); 7] = [
+const ACTIONS: [(Body, Step, Wanted); 8] = [
+    (Body::Times(U, V), Step::Action(PLACE), KIND),
     (Body::Times(U, V), Step::Action(W), LINEAR),
     (Body::Of(V), Step::Action(W), FUNCTIONAL),
     (Body::Power(U, 0, W), Step::Action(W), KIND),
@@ -325,7 +331,8 @@ const ACTIONS: [(Body, Step, Wanted); 7] = [
     (HIGHEST, Step::Action(W), NODES),
 ];
 
-const DERIVATIVES: [(Body, Step, Wanted); 12] = [
+const DERIVATIVES: [(Body, Step, Wanted); 13] = [
+    (Body::Times(W, V), Step::Derivative(W, PLACE), KIND),
     (Body::Times(W, W), Step::Derivative(W, V), LINEAR),
     (Body::Times(W, V), Step::Derivative(W, U), BILINEAR),
     (Body::Times(W, V), Step::Derivative(W, V), SQUARE),

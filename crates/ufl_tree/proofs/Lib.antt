@@ -1,3 +1,3 @@
 pub mod ReadingLaws
 pub mod KindLaws
-pub mod EnvironmentLaws
+pub mod FunctionLaws

@@ -4,8 +4,4 @@ pub mod FormTerm
 pub mod Reading
 pub mod Indices
 pub mod Places
-pub mod Environment
-pub mod Operators
-pub mod Value
-pub mod Meaning
-pub mod Density
+pub mod Functions

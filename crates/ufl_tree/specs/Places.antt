@@ -1,5 +1,7 @@
 -- Where the components of a function stand in the flat list of its element
-use Rattle.std.specs.Prelude.{ℕ, zero, suc, ◌+◌, List, [], ◌∷◌, length, Option, None, Some, slice_get}
+use Rattle.std.specs.Prelude.{ℕ, zero, suc, ◌+◌, List, [], ◌∷◌, length, map, Option, None, Some, slice_get}
+use Rattle.spaces.specs.declared.element_tree.ElementTree.{ElementTree}
+use Rattle.spaces.specs.Reading.{space_of}
 use Rattle.spaces.specs.Space.{Space, scalar, vector, tensor, mixed, Spaces, no_spaces, space, scalars, scalars_of}
 use Rattle.ufl_tree.specs.declared.function.Function.{Function}
 use Rattle.ufl_tree.specs.Indices.{place}
@@ -7,6 +9,10 @@ use Rattle.ufl_tree.specs.Indices.{place}
 -- the elements by their numbers
 abbrev pub Table : Type 0
 Table = List Space
+
+-- the spaces of elements
+abbrev pub table_of : List ElementTree → Table
+table_of = map space_of
 
 -- none for a scalar; a function of a mixed element is one vector of all its components
 abbrev pub element_shape : Space → List ℕ

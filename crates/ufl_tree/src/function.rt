@@ -1,4 +1,4 @@
-//! Functions and indices, the leaves of trees.
+//! Functions and indices, the leaves of trees, and the cells of integrals.
 
 /// The part that a function plays in a form.
 #[derive(Clone, Copy, Debug, PartialEq, Eq)]
@@ -7,6 +7,8 @@ pub enum Role {
     Test,
     /// The trial function, the last argument where there is one.
     Trial,
+    /// The place in the cell, as the vector of its coordinates: neither an argument nor a coefficient.
+    Position,
     /// The coefficient of this number.
     Coefficient(u32),
 }
@@ -34,4 +36,13 @@ pub struct Free {
     /// The name.
     pub index: u16,
     pub dim: u8,
+}
+
+/// The cells that an integral is over.
+#[derive(Clone, Copy, Debug, PartialEq, Eq)]
+pub enum On {
+    /// All of them.
+    All,
+    /// Those with this marker.
+    Marked(u32),
 }

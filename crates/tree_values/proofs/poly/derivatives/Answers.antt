@@ -1,4 +1,4 @@
-use Rattle.ufl_tree.specs.Operators.{along}
+use Rattle.ufl_meaning.specs.Operators.{along}
 use Rattle.tree_values.proofs.Sums.{begun, pushed}
 use Rattle.tree_values.proofs.Along.{along-plus}
 use Rattle.tree_values.proofs.poly.derivatives.Goals as goal

@@ -1,7 +1,7 @@
 use Rattle.std.proofs.Common.{◌≡◌, take}
 use Rattle.tree_values.specs.TermValue.{sum_of}
 use Rattle.calculus.specs.Polynomial.{coefficient_of}
-use Rattle.ufl_tree.specs.Environment.{parameter_number}
+use Rattle.ufl_meaning.specs.Environment.{parameter_number}
 use Rattle.tree_values.proofs.poly.linear_parts.Given as goal
 
 abbrev pub invariant-loop-t : goal.invariant-loop-t

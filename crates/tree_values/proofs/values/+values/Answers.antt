@@ -1,6 +1,6 @@
 use Rattle.std.proofs.Common.{◌∙◌, refl, sym, ap, ap₂, [], ◌++◌, map, arith}
 use Rattle.calculus.specs.Polynomial.{plus, power}
-use Rattle.ufl_tree.specs.Operators.{along, one_value, curl_value}
+use Rattle.ufl_meaning.specs.Operators.{along, one_value, curl_value}
 use Rattle.ufl_tree.specs.Indices.{front, back, index_values}
 use Rattle.tree_values.specs.PolyValue.{value_of}
 use Rattle.tree_values.specs.Scene.{names_of, assigned}
@@ -111,8 +111,8 @@ tensor-returns t c =
 pub diff-returns : goal.diff-returns
 diff-returns t c =
     ok_as value_of c.linear_part.result _ _
-    (l.diff_at c.args.scene.now _ c.args.a.now c.args.label _ c.args.at.now c.last_part.result.now c.first_part.result.now _ refl refl refl (c.as_slice.ensures ∙ c.in_ok-raised.ensures) refl
-    (c.last_part.ensures ∙ ap (λ s. back s c.args.at.now) c.as_slice-shape.ensures) (c.first_part.ensures ∙ ap (λ s. front s c.args.at.now) c.as_slice-shape.ensures) c.in_ok-value.ensures)
+    (l.diff_at c.args.scene.now _ c.args.a.now c.args.label _ c.args.at.now c.in_ok-from_slice.field-0 c.first_part.result.now _ (c.used.ensures.is c.args.scene.now.functions.now) refl refl refl (c.as_slice.ensures ∙ c.in_ok-changes.ensures) refl
+    (c.in_ok-from_slice.ensures ∙ c.last_part.ensures ∙ ap (λ s. back s c.args.at.now) c.as_slice-shape.ensures) (c.first_part.ensures ∙ ap (λ s. front s c.args.at.now) c.as_slice-shape.ensures) c.in_ok-value.ensures)
     c.linear_part.ensures
 
 -- ---- operators

@@ -1,6 +1,7 @@
 use Rattle.std.proofs.Common.{◌≡◌, take, map, ◌∷◌}
 use Rattle.ufl_tree.specs.Indices.{followed_by}
-use Rattle.ufl_tree.specs.Operators.{along, sum_below, trace_value}
+use Rattle.calculus.specs.Integral.{sum_below}
+use Rattle.ufl_meaning.specs.Operators.{along, trace_value}
 use Rattle.tree_values.specs.PolyValue.{value_of}
 use Rattle.tree_values.specs.Value.{value_in, sum_in}
 use Rattle.tree_values.proofs.values.+values.Given as goal

@@ -1,6 +1,7 @@
 use Rattle.std.proofs.Common.{◌≡◌, drop}
 use Rattle.spaces.specs.Reading.{space_of}
-use Rattle.ufl_expr.specs.Elements.{number_from, table_of}
+use Rattle.ufl_tree.specs.Places.{table_of}
+use Rattle.ufl_expr.specs.Elements.{number_from}
 use Rattle.ufl_expr.proofs.elements.number_of.Given as goal
 
 abbrev pub invariant-loop-number : goal.invariant-loop-number

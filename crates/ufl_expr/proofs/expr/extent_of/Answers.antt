@@ -12,10 +12,10 @@ loop-item-preserved c =
     let a = c.item in
     record {
       extended =
-          extended_step l.nodes l.height a.inside.nodes a.inside.height c.larger-height.result c.args.items.now l.item-index c.item-item.result a.inside.tree (listed c.args.items.now)
-          c.loop-item-test.true c.item-item.is a.view_is a.invariant.typed a.invariant.count a.invariant.depth l.invariant.extended c.larger-height.ensures;
+          extended_step l.nodes l.height a.inside.nodes a.inside.height c.max-height.result c.args.items.now l.item-index c.item-item.result a.inside.tree (listed c.args.items.now)
+          c.loop-item-test.true c.item-item.is a.view_is a.invariant.typed a.invariant.count a.invariant.depth l.invariant.extended c.max-height.ensures;
       few = omega (arith, l.invariant.few, a.invariant.few);
-      flat = omega (arith, l.invariant.flat, a.invariant.flat, c.larger-height.ensures);
+      flat = omega (arith, l.invariant.flat, a.invariant.flat, c.max-height.ensures);
     }
 
 pub overflow_add-nodes : goal.overflow_add-nodes

@@ -3,7 +3,7 @@ use Rattle.algebra.specs.Fraction.{mul}
 use Rattle.ratio.specs.Value.{fraction_of}
 use Rattle.calculus.specs.Polynomial.{monomial, constant}
 use Rattle.calculus.proofs.PolynomialLaws.{constant-zero}
-use Rattle.ufl_tree.specs.Operators.{along}
+use Rattle.ufl_meaning.specs.Operators.{along}
 use Rattle.tree_values.specs.TermValue.{term_of}
 use Rattle.tree_values.proofs.Monomials.{powers, x_derivative, y_derivative, z_derivative}
 use Rattle.tree_values.proofs.Along.{no_direction}

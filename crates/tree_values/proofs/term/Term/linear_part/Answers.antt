@@ -1,7 +1,7 @@
 use Rattle.std.proofs.Common.{sym, ap, ◌∙◌}
 use Rattle.ratio.specs.Value.{fraction_of}
 use Rattle.calculus.specs.Polynomial.{coefficient_of}
-use Rattle.ufl_tree.specs.Environment.{parameter_number}
+use Rattle.ufl_meaning.specs.Environment.{parameter_number}
 use Rattle.tree_values.specs.TermValue.{term_of}
 use Rattle.tree_values.proofs.Monomials.{no_parameter}
 use Rattle.tree_values.proofs.term.Term.linear_part.Goals as goal

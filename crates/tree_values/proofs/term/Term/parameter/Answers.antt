@@ -1,6 +1,6 @@
 use Rattle.std.proofs.Common.{sym, ap, ◌∙◌}
 use Rattle.calculus.specs.Polynomial.{monomial}
-use Rattle.ufl_tree.specs.Environment.{parameter}
+use Rattle.ufl_meaning.specs.Environment.{parameter}
 use Rattle.tree_values.proofs.Monomials.{powers, first_parameter, second_parameter, third_parameter}
 use Rattle.tree_values.proofs.term.Term.parameter.Goals as goal
 

@@ -1,7 +1,7 @@
 use Rattle.std.proofs.Common.{◌∙◌, arith}
 use Rattle.spaces.specs.Reading.{space_of}
-use Rattle.ufl_expr.specs.Elements.{table_of}
-use Rattle.ufl_expr.proofs.ElementLaws.{found_at, found_within, kept_table, number_moved, added_new, longer_new, distinct_added}
+use Rattle.ufl_tree.specs.Places.{table_of}
+use Rattle.ufl_expr.proofs.ElementLaws.{found_at, found_within, kept_table, number_moved, added_new, longer_new, distinct_added, one_more}
 use Rattle.ufl_expr.proofs.elements.Elements.add.Goals as goal
 
 pub overflow_cast-result : goal.overflow_cast-result
@@ -22,7 +22,10 @@ returns-in-Some-clause-table c =
 pub invariant_of-self-in-None : goal.invariant_of-self-in-None
 invariant_of-self-in-None c =
     let h = number_moved c.tree.result.now c.args.element c.as_slice.result.now c.self.inside.items _ c.tree.ensures.same c.as_slice.ensures c.in-None.ensures in
-    distinct_added c.args.element c.self.inside.items c.push.new.self h c.in_ok-push-in-None.ensures.ok c.self.invariant
+    record {
+      distinct = distinct_added c.args.element c.self.inside.items c.push.new.self h c.in_ok-push-in-None.ensures.ok c.self.invariant.distinct;
+      few = one_more c.args.element c.self.inside.items c.args.self.now c.push.new.self c.in_ok-push-in-None.ensures.ok c.self.view_is c.requires;
+    }
 
 pub returns-in_ok-push-in-None-clause-number : goal.returns-in_ok-push-in-None-clause-number
 returns-in_ok-push-in-None-clause-number c = added_new c.self.inside.items c.push.new.self c.args.element c.len-number.result c.in_ok-push-in-None.ensures.ok c.len-number.ensures

@@ -1,7 +1,7 @@
 use Rattle.std.proofs.Common.{ap, ◌∙◌, sym}
 use Rattle.ufl_tree.specs.declared.tree.Node.TheVariants as v
 use Rattle.ufl_expr.specs.Building.{built}
-use Rattle.ufl_expr.specs.Elements.{table_of}
+use Rattle.ufl_tree.specs.Places.{table_of}
 use Rattle.ufl_expr.specs.Signatures.{kind_in}
 use Rattle.ufl_expr.proofs.BuildingLaws.{gives_same, gives_passed, refused_built}
 use Rattle.ufl_expr.proofs.FunctionLaws.{counted_piece}

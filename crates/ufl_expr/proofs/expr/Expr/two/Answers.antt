@@ -17,7 +17,7 @@ finish-requires c =
     (same_kinds (λ s t. two_kind c.args.op (kind_of s) (kind_of t)) p q a.tree b.tree _ c.in_ok-new.ensures c.in_ok-new-2.ensures c.in_ok-signature.ensures)
     (moved p a.tree a.nodes a.height c.in_ok-new.ensures (record { typed = c.a.invariant.typed; count = c.a.invariant.count; depth = c.a.invariant.depth }))
     (moved q b.tree b.nodes b.height c.in_ok-new-2.ensures (record { typed = c.b.invariant.typed; count = c.b.invariant.count; depth = c.b.invariant.depth })) in
-    record { typed = C.typed; count = C.count; depth = ap (λ x. x + 1) c.larger.ensures ∙ C.depth }
+    record { typed = C.typed; count = C.count; depth = ap (λ x. x + 1) c.max.ensures ∙ C.depth }
 
 pub returns : goal.returns
 returns c =

@@ -11,7 +11,7 @@ finish-requires c =
     let b = c.b.inside in
     let p = c.in_ok-new.field-0 in
     let q = c.in_ok-new-2.field-0 in
-    described_kept _ _ _ _ _ _ _ _ refl c.united.ensures (ap (λ x. x + 1) c.larger.ensures)
+    described_kept _ _ _ _ _ _ _ _ refl c.united.ensures (ap (λ x. x + 1) c.max.ensures)
     (described_sum p q a.kind b.kind c.in_ok-kind.kind a.patterns b.patterns a.nodes b.nodes a.height b.height (sym c.in_ok-kind.ensures)
     (described_part p a.tree a.kind a.patterns a.nodes a.height c.in_ok-new.ensures c.a.invariant.described)
     (described_part q b.tree b.kind b.patterns b.nodes b.height c.in_ok-new-2.ensures c.b.invariant.described))

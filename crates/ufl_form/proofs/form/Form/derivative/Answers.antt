@@ -1,5 +1,5 @@
 use Rattle.std.proofs.Common.{ap, ◌∙◌, sym, inr, refl}
-use Rattle.ufl_expr.specs.Elements.{table_of}
+use Rattle.ufl_tree.specs.Places.{table_of}
 use Rattle.ufl_expr.proofs.BuildingLaws.{gives_passed, gives_same}
 use Rattle.ufl_form.specs.declared.form_tree.FormTree.TheVariants as v
 use Rattle.ufl_form.specs.Patterns.{product}

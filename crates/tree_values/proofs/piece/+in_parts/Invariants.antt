@@ -1,5 +1,0 @@
-use Rattle.std.proofs.Common.{length}
-use Rattle.tree_values.proofs.piece.+in_parts.Given as goal
-
-abbrev pub decreases-in_parts : goal.decreases-in_parts
-decreases-in_parts l = length l.parts.now

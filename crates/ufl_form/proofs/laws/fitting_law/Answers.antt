@@ -1,5 +1,0 @@
-use Rattle.ufl_form.proofs.FitLaws as laws
-use Rattle.ufl_form.proofs.laws.fitting_law.Goals as goal
-
-pub returns : goal.returns
-returns c = laws.builders_fit

@@ -1,0 +1,3 @@
+pub mod EnvironmentLaws
+pub mod FreeLaws
+pub mod Freshness
