@@ -1,0 +1,5 @@
+pub mod Renaming
+pub mod Shares
+pub mod Lowering
+pub mod Fitting
+pub mod Keeping

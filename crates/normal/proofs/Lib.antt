@@ -1,0 +1,12 @@
+pub mod MonomialLaws
+pub mod MeaningLaws
+pub mod OrderLaws
+pub mod CollectingLaws
+pub mod WeightLaws
+pub mod BoundingLaws
+pub mod CollectedLaws
+pub mod CollectedWeights
+pub mod OriginLaws
+pub mod KeptLaws
+pub mod NumberLaws
+pub mod IntegrandLaws

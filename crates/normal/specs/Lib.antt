@@ -1,0 +1,5 @@
+pub mod Monomials
+pub mod Collecting
+pub mod Bounding
+pub mod Origins
+pub mod Integrands

@@ -1,0 +1,4 @@
+pub mod MeaningKept
+pub mod CoefficientsOf
+pub mod LinearLaws
+pub mod BoundsKept

@@ -1,0 +1,11 @@
+pub mod Lists
+pub mod Combined
+pub mod Free
+pub mod PulledBack
+pub mod Products
+pub mod MonoShares
+pub mod Values
+pub mod SharesLaw
+pub mod LocalLaws
+pub mod Vertices
+pub mod WorkedItems

@@ -1,0 +1,5 @@
+pub mod Local
+pub mod Digits
+pub mod Reference
+pub mod Vertices
+pub mod Examples

@@ -1,0 +1,17 @@
+pub mod Lists
+pub mod NumbersLaws
+pub mod VolumeLaws
+pub mod ColumnLaws
+pub mod EndsLaws
+pub mod PreambleLaws
+pub mod RoomLaws
+pub mod AddingLaws
+pub mod RowLaws
+pub mod SumRoomLaws
+pub mod WeightLaws
+pub mod MultipleLaws
+pub mod GreaterNumbers
+pub mod ColumnValues
+pub mod KernelLaws
+pub mod ShareLaws
+pub mod PartLaws

@@ -1,0 +1,14 @@
+pub mod LcmLaws
+pub mod SoundLaws
+pub mod AgreeLaws
+pub mod StepLaws
+pub mod WeighLaws
+pub mod DecisionLaws
+pub mod AdmittedLaws
+pub mod BoundsLaws
+pub mod TermLaws
+pub mod NumeratorLaws
+pub mod ListLaws
+pub mod NodeLaws
+pub mod TableLaws
+pub mod WorkedWeights

@@ -1,0 +1,9 @@
+pub mod Steps
+pub mod Weighing
+pub mod Terms
+pub mod Refusals
+pub mod Admitted
+pub mod Bounds
+pub mod Numerators
+pub mod Lists
+pub mod Examples
