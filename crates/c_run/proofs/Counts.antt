@@ -1,9 +1,9 @@
 -- How many statements are written and counted
-use Rattle.std.proofs.Common.{◌≡◌, ℕ, zero, suc, ◌+◌, ◌*◌, ◌<◌, ◌≤◌, min, refl, sym, ◌∙◌, ap, subst, arith, add_assoc, length, take, get_or, nat_lt, ltb-true, ltb-false, List, [], ◌∷◌, ◌++◌, true, false}
+use Rattle.std.proofs.Common.{◌≡◌, ℕ, zero, suc, ◌+◌, ◌<◌, min, refl, sym, ◌∙◌, ap, arith, add_assoc, length, take, get_or, List, [], ◌∷◌, ◌++◌, false}
 use Rattle.std.proofs.lemmas.List.{take_more}
 use Rattle.c_unit.specs.declared.unit.CStmt.{CStmt, Set, Copy, Abs, Inv, Add, Sub, Mul, Load, For'}
 use Rattle.c_unit.specs.declared.unit.CStmt.TheViews as View
-use Rattle.c_unit.specs.Meaning.{counted, counted-For, counted_list, written, written-For, written_list}
+use Rattle.c_unit.specs.Meaning.{counted, written, written-For, written_list}
 use Rattle.c_run.specs.Answer.{is_loop, number}
 
 pub one_written : (c : CStmt) → is_loop c ≡ false → written c ≡ 1
@@ -38,69 +38,11 @@ written_append : (bs cs : List CStmt) → written_list (bs ++ cs) ≡ written_li
 written_append [] cs = from_none (written_list cs)
 written_append (b ∷ bs) cs = ap (λ n. written b + n) (written_append bs cs) ∙ sym (add_assoc (written b) (written_list bs) (written_list cs))
 
-counted_append : (bs cs : List CStmt) → counted_list (bs ++ cs) ≡ counted_list bs + counted_list cs
-counted_append [] cs = from_none (counted_list cs)
-counted_append (b ∷ bs) cs = ap (λ n. counted b + n) (counted_append bs cs) ∙ sym (add_assoc (counted b) (counted_list bs) (counted_list cs))
-
 pub one_more_written : (body : List CStmt) (k : ℕ) (c : CStmt) → k < length body → c ≡ get_or body k c → written_list (take (k + 1) body) ≡ written_list (take k body) + written c
 one_more_written body k c h e =
     ap written_list (take_more body k c h ∙ ap (λ x. take k body ++ x ∷ []) (sym e))
     ∙ written_append (take k body) (c ∷ [])
     ∙ ap (λ n. written_list (take k body) + n) (no_more (written c))
-
-pub one_more_counted : (body : List CStmt) (k : ℕ) (c : CStmt) → k < length body → c ≡ get_or body k c → counted_list (take (k + 1) body) ≡ counted_list (take k body) + counted c
-one_more_counted body k c h e =
-    ap counted_list (take_more body k c h ∙ ap (λ x. take k body ++ x ∷ []) (sym e))
-    ∙ counted_append (take k body) (c ∷ [])
-    ∙ ap (λ n. counted_list (take k body) + n) (no_more (counted c))
-
-taken : (body : List CStmt) (k : ℕ) → counted_list (take k body) ≤ counted_list body
-taken body zero = omega arith
-taken [] (suc k) = omega arith
-taken (b ∷ body) (suc k) = omega (arith, taken body k)
-
-some : (n : ℕ) → 0 < n → true ≡ nat_lt 0 n
-some n h = grind arith
-
-none : (n : ℕ) → n ≡ 0 → false ≡ nat_lt 0 n
-none n h = grind arith
-
-pub busy_statement : (body : List CStmt) (k : ℕ) (c : CStmt) → k < length body → c ≡ get_or body k c → 0 < counted c → true ≡ nat_lt 0 (counted_list body)
-busy_statement body k c h e g =
-    let more : counted_list (take (k + 1) body) ≡ counted_list (take k body) + counted c = one_more_counted body k c h e in
-    let less : counted_list (take (k + 1) body) ≤ counted_list body = taken body (k + 1) in
-    some (counted_list body) (omega arith)
-
-times_some : (n k : ℕ) → 0 < n → 0 < k → 0 < n * k
-times_some n k h g = grind arith
-
-pub busy_loop : (c : CStmt) (n : ℕ) (inner : List CStmt) → c ≡ View.For n inner → 0 < n → true ≡ nat_lt 0 (counted_list inner) → 0 < counted c
-busy_loop c n inner e h g =
-    let count : counted c ≡ n * counted_list inner = ap counted e ∙ counted-For n inner in
-    subst (λ k. 0 < k) (sym count) (times_some n (counted_list inner) h (ltb-true 0 (counted_list inner) (sym g)))
-
-pub idle_body : (c : CStmt) (n : ℕ) (inner : List CStmt) → c ≡ View.For n inner → false ≡ nat_lt 0 (counted_list inner) → counted c ≡ 0
-idle_body c n inner e g =
-    let count : counted c ≡ n * counted_list inner = ap counted e ∙ counted-For n inner in
-    let nothing : counted_list inner ≤ 0 = ltb-false 0 (counted_list inner) (sym g) in
-    let zero : counted_list inner ≡ 0 = omega arith in
-    count ∙ ap (λ k. n * k) zero ∙ times_none n
-  where
-    times_none : (n : ℕ) → n * 0 ≡ 0
-    times_none n = grind arith
-
-pub no_turns : (c : CStmt) (n : ℕ) (inner : List CStmt) → c ≡ View.For n inner → n ≤ 0 → counted c ≡ 0
-no_turns c n inner e g =
-    let zero : n ≡ 0 = omega arith in
-    ap counted e ∙ counted-For n inner ∙ ap (λ k. k * counted_list inner) zero ∙ none_times (counted_list inner)
-  where
-    none_times : (n : ℕ) → 0 * n ≡ 0
-    none_times n = grind arith
-
-pub idle_still : (body : List CStmt) (k : ℕ) (c : CStmt) → k < length body → c ≡ get_or body k c → counted_list (take k body) ≡ 0 → counted c ≡ 0 → counted_list (take (k + 1) body) ≡ 0
-idle_still body k c h e f g =
-    let more : counted_list (take (k + 1) body) ≡ counted_list (take k body) + counted c = one_more_counted body k c h e in
-    omega arith
 
 capped_sum : (m n : ℕ) → min (number m + number n) 4294967295 ≡ number (m + n)
 capped_sum m n = grind arith

@@ -42,8 +42,3 @@ idle_list [] h ks d is s = refl
 idle_list (c ∷ cs) h ks d is s =
     ap (λ e. then_do e (λ s'. further (written c) (run_list cs ks d is s'))) (idle_one c (first_none (counted c) (counted_list cs) h) ks d is s)
     ∙ ap (further (written c)) (idle_list cs (second_none (counted c) (counted_list cs) h) ks d is s)
-
--- a loop over such statements
-pub idle_loop : (n : ℕ) (cs : List CStmt) → counted_list cs ≡ 0 → (ks : List (List Fraction)) (d : ℕ) (is : List ℕ) (s : Slots)
-    → turns n 0 (λ i. run_list cs ks (deeper d) (slice_set is d i)) s ≡ Going s
-idle_loop n cs h ks d is s = idle_turns n 0 (λ i. run_list cs ks (deeper d) (slice_set is d i)) s (λ i. idle_list cs h ks (deeper d) (slice_set is d i) s)

@@ -1,15 +1,14 @@
 -- What is left of a run within a block
-use Rattle.std.proofs.Common.{◌≡◌, ℕ, suc, ◌+◌, ◌-◌, ◌<◌, ◌≤◌, refl, sym, ◌∙◌, ap, ap₂, arith, length, drop, drop-cons, take, get_or, slice_set, nat_lt, ltb-false, if◌then◌else◌, List, [], ◌∷◌, Bool, true, false}
-use Rattle.std.proofs.lemmas.List.{drop_all}
+use Rattle.std.proofs.Common.{◌≡◌, ℕ, suc, ◌+◌, ◌-◌, ◌<◌, ◌≤◌, refl, sym, ◌∙◌, ap, ap₂, arith, length, drop, drop-cons, take, get_or, slice_set, List, [], ◌∷◌, Bool, true, false}
 use Rattle.algebra.specs.Fraction.{Fraction}
 use Rattle.c_unit.specs.declared.unit.CStmt.{CStmt}
 use Rattle.c_unit.specs.declared.unit.CStmt.TheViews as View
-use Rattle.c_unit.specs.Meaning.{Slots, End, Going, counted_list, deeper, further, run_list, run_one, run_one-For, then_do, turns, written, written-For, written_list}
+use Rattle.c_unit.specs.Meaning.{Slots, End, Going, counted, counted_list, deeper, further, run_list, run_one, run_one-For, then_do, turns, written, written-For, written_list}
 use Rattle.c_run.specs.declared.ret.Ret.{Ret}
 use Rattle.c_run.specs.Answer.{end_of, is_good, number, numbered}
 use Rattle.c_run.proofs.Ends.{further-further, further-zero, numbered-further, numbered_count, stopped, stopped_at, then_further, went_on, went_on_at}
 use Rattle.c_run.proofs.Counts.{one_more_written}
-use Rattle.c_run.proofs.Idle.{idle_loop}
+use Rattle.c_run.proofs.Idle.{idle_one, idle_list}
 
 -- one turn of a loop
 abbrev pub turn : List CStmt → List (List Fraction) → ℕ → List ℕ → ℕ → Slots → End
@@ -24,7 +23,7 @@ abbrev pub left_in : List CStmt → List (List Fraction) → ℕ → List ℕ �
 left_in body ks d is k inner n i s =
     further (written_list (take k body)) (then_do (further 1 (turns (n - i) i (turn inner ks d is) s)) (λ s'. further (1 + written_list inner) (run_list (drop (k + 1) body) ks d is s')))
 
-next : (body : List CStmt) (k : ℕ) (c : CStmt) → k < length body → c ≡ get_or body k c → drop k body ≡ c ∷ drop (k + 1) body
+pub next : (body : List CStmt) (k : ℕ) (c : CStmt) → k < length body → c ≡ get_or body k c → drop k body ≡ c ∷ drop (k + 1) body
 next body k c h e = drop-cons body k c h ∙ ap₂ (λ x n. x ∷ drop n body) (sym e) (after k)
   where
     after : (k : ℕ) → suc k ≡ k + 1
@@ -32,11 +31,6 @@ next body k c h e = drop-cons body k c h ∙ ap₂ (λ x n. x ∷ drop n body) (
 
 pub starts : (body : List CStmt) (ks : List (List Fraction)) (d : ℕ) (is : List ℕ) (s : Slots) → run_list body ks d is s ≡ left_at body ks d is 0 s
 starts body ks d is s = sym (further-zero (run_list body ks d is s))
-
-pub ends : (body : List CStmt) (ks : List (List Fraction)) (d : ℕ) (is : List ℕ) (k : ℕ) (s : Slots) → length body ≤ k → left_at body ks d is k s ≡ Going s
-ends body ks d is k s h =
-    let nothing : drop k body ≡ [] = drop_all k body h in
-    ap (λ l. further (written_list (take k body)) (run_list l ks d is s)) nothing
 
 opened : (body : List CStmt) (ks : List (List Fraction)) (d : ℕ) (is : List ℕ) (k : ℕ) (s : Slots) (c : CStmt) → k < length body → c ≡ get_or body k c
     → left_at body ks d is k s ≡ further (written_list (take k body)) (then_do (run_one c ks d is s) (λ s'. further (written c) (run_list (drop (k + 1) body) ks d is s')))
@@ -64,30 +58,32 @@ statement_stops body ks d is k s s' c r h e f g =
     ∙ ap (further (written_list (take k body))) (stopped_at r s' _ g))
     ∙ sym (numbered_count (written_list (take k body)) (end_of r s'))
 
-some_turns : (n : ℕ) (inner : List CStmt) (ks : List (List Fraction)) (d : ℕ) (is : List ℕ) (s : Slots) (t : Bool) → nat_lt 0 (counted_list inner) ≡ t
-    → turns n 0 (turn inner ks d is) s ≡ turns (if t then n else 0) 0 (turn inner ks d is) s
-some_turns n inner ks d is s true e = refl
-some_turns n inner ks d is s false e = idle_loop n inner (none (counted_list inner) (ltb-false 0 (counted_list inner) e)) ks d is s
-  where
-    none : (n : ℕ) → n ≤ 0 → n ≡ 0
-    none n h = omega arith
+pub idle_passed : (body : List CStmt) (ks : List (List Fraction)) (d : ℕ) (is : List ℕ) (k : ℕ) (s : Slots) (c : CStmt) → k < length body → c ≡ get_or body k c → counted c ≡ 0
+    → left_at body ks d is k s ≡ left_at body ks d is (k + 1) s
+idle_passed body ks d is k s c h e z =
+    opened body ks d is k s c h e
+    ∙ ap (λ x. further (written_list (take k body)) (then_do x (λ s'. further (written c) (run_list (drop (k + 1) body) ks d is s')))) (idle_one c z ks d is s)
+    ∙ closed body ks d is k s c h e
 
-pub loop_begins : (body : List CStmt) (ks : List (List Fraction)) (d : ℕ) (is : List ℕ) (k : ℕ) (s : Slots) (c : CStmt) (n : ℕ) (inner : List CStmt) (m : ℕ) → k < length body → c ≡ get_or body k c → c ≡ View.For n inner
-    → m ≡ (if nat_lt 0 (counted_list inner) then n else 0) → left_at body ks d is k s ≡ left_in body ks d is k inner m 0 s
-loop_begins body ks d is k s c n inner m h e f g =
+pub nothing_left : (body : List CStmt) (ks : List (List Fraction)) (d : ℕ) (is : List ℕ) (k : ℕ) (s : Slots) → counted_list (drop k body) ≡ 0 → left_at body ks d is k s ≡ Going s
+nothing_left body ks d is k s h = ap (further (written_list (take k body))) (idle_list (drop k body) h ks d is s)
+
+pub loop_begins : (body : List CStmt) (ks : List (List Fraction)) (d : ℕ) (is : List ℕ) (k : ℕ) (s : Slots) (c : CStmt) (n : ℕ) (inner : List CStmt) → k < length body → c ≡ get_or body k c → c ≡ View.For n inner
+    → left_at body ks d is k s ≡ left_in body ks d is k inner n 0 s
+loop_begins body ks d is k s c n inner h e f =
     opened body ks d is k s c h e
     ∙ ap (λ x. further (written_list (take k body)) (then_do (run_one x ks d is s) (λ s'. further (written x) (run_list (drop (k + 1) body) ks d is s')))) f
     ∙ ap₂ (λ x j. further (written_list (take k body)) (then_do x (λ s'. further j (run_list (drop (k + 1) body) ks d is s'))))
-    (run_one-For n inner ks d is s ∙ ap (further 1) (some_turns n inner ks d is s (nat_lt 0 (counted_list inner)) refl ∙ ap (λ j. turns j 0 (turn inner ks d is) s) (sym g ∙ whole m)))
+    (run_one-For n inner ks d is s ∙ ap (λ j. further 1 (turns j 0 (turn inner ks d is) s)) (whole n))
     (written-For n inner)
   where
     whole : (m : ℕ) → m ≡ m - 0
     whole m = omega arith
 
-pub loop_ends : (body : List CStmt) (ks : List (List Fraction)) (d : ℕ) (is : List ℕ) (k : ℕ) (s : Slots) (c : CStmt) (n : ℕ) (inner : List CStmt) (m i : ℕ) → k < length body → c ≡ get_or body k c → c ≡ View.For n inner
-    → m ≤ i → left_in body ks d is k inner m i s ≡ left_at body ks d is (k + 1) s
-loop_ends body ks d is k s c n inner m i h e f g =
-    ap (λ j. further (written_list (take k body)) (then_do (further 1 (turns j i (turn inner ks d is) s)) (λ s'. further (1 + written_list inner) (run_list (drop (k + 1) body) ks d is s')))) (none m i g)
+pub loop_ends : (body : List CStmt) (ks : List (List Fraction)) (d : ℕ) (is : List ℕ) (k : ℕ) (s : Slots) (c : CStmt) (n : ℕ) (inner : List CStmt) (i : ℕ) → k < length body → c ≡ get_or body k c → c ≡ View.For n inner
+    → n ≤ i → left_in body ks d is k inner n i s ≡ left_at body ks d is (k + 1) s
+loop_ends body ks d is k s c n inner i h e f g =
+    ap (λ j. further (written_list (take k body)) (then_do (further 1 (turns j i (turn inner ks d is) s)) (λ s'. further (1 + written_list inner) (run_list (drop (k + 1) body) ks d is s')))) (none n i g)
     ∙ ap (λ j. further (written_list (take k body)) (further j (run_list (drop (k + 1) body) ks d is s))) (sym (ap written f ∙ written-For n inner))
     ∙ closed body ks d is k s c h e
   where

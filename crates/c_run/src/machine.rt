@@ -4,8 +4,10 @@ ghost use Rattle.std.specs.Prelude.{◌≡◌, IfOk, length, replicate};
 ghost use Rattle.algebra.specs.Fraction.{zero_fraction};
 ghost use Rattle.c_unit.specs.Meaning.{fractions_of, ran};
 ghost use Rattle.c_run.specs.Answer.{answer, answer_of};
+ghost use Rattle.c_run.specs.Busy.{IsListed};
 
 use crate::block::run_block;
+use crate::busy::{Busy, list_statements};
 use crate::place::{Inputs, Turns};
 use crate::ret::Ret;
 use c_unit::CFun;
@@ -17,6 +19,7 @@ use std::marker::Model;
 #[derive(Drop)]
 pub struct Machine<'f> {
     fun: &'f CFun,
+    busy: Vec<Busy>,
     t: Vec<Ratio>,
 }
 
@@ -24,6 +27,7 @@ impl<'f> Model for Machine<'f> {
     ghost use Rattle.std.specs.Prelude.{◌≡◌, length};
     ghost use Rattle.std.specs.Coded.{codes};
     ghost use Rattle.c_unit.specs.declared.unit.CFun.{CFun};
+    ghost use Rattle.c_run.specs.Busy.{IsListed};
     ghost use Rattle.c_unit.specs.contracts.unit.CStmt as statement;
 
     ghost Value = { CFun };
@@ -32,7 +36,7 @@ impl<'f> Model for Machine<'f> {
 
     ghost view = { λ m. m.fun.now };
 
-    ghost invariant = { λ m. length m.t.items ≡ m.fun.now.t };
+    ghost invariant = { λ m. (length m.t.items ≡ m.fun.now.t) × IsListed 0 m.fun.now.body m.busy.items };
 }
 
 // Sets all slots to 0, as they are when a run begins.
@@ -42,8 +46,16 @@ fn clear(slots: &mut [Ratio])
     slots.fill(Ratio::zero());
 }
 
-// A run of the function over the slots `t` of its temporaries.
-fn run_function(fun: &CFun, x: &[Ratio], w: &[Ratio], t: &mut [Ratio], a: &mut [Ratio]) -> Ret
+// A run of the function, whose statements `busy` lists, over the slots `t` of its temporaries.
+fn run_function(
+    fun: &CFun,
+    busy: &[Busy],
+    x: &[Ratio],
+    w: &[Ratio],
+    t: &mut [Ratio],
+    a: &mut [Ratio],
+) -> Ret
+    requires listed { IsListed 0 fun.now.body busy.now }
     requires temporaries { length t.old ≡ fun.now.t }
     requires tensor { length a.old ≡ fun.now.a }
     ensures { answer_of result a.new ≡ answer (ran fun.now (fractions_of x.now) (fractions_of w.now)) }
@@ -59,17 +71,18 @@ fn run_function(fun: &CFun, x: &[Ratio], w: &[Ratio], t: &mut [Ratio], a: &mut [
         x,
         w,
     };
-    run_block(fun.body.as_slice(), is, &from, t, a)
+    run_block(fun.body.as_slice(), busy, is, &from, t, a)
 }
 
 impl<'f> Machine<'f> {
-    /// A machine for `fun`. It takes the memory of the temporaries, 32 bytes a slot, and no run takes more; where that
-    /// memory isn't there, it gives an `AllocError`.
+    /// A machine for `fun`. It takes the memory of the temporaries, 32 bytes a slot, and of a list of the statements, 16
+    /// bytes each, and no run takes more; where that memory isn't there, it gives an `AllocError`.
     pub fn new(alloc: Global, fun: &'f CFun) -> Result<Machine<'f>, AllocError>
         ensures { IfOk result (λ m. m ≡ fun.now) }
     {
         let t = vec![in alloc; Ratio::zero(); fun.t as usize]?;
-        Ok(Machine { fun, t })
+        let busy = list_statements(alloc, fun)?;
+        Ok(Machine { fun, busy, t })
     }
 
     /// Runs the function on coordinates `x` and coefficient values `w`, and writes the local tensor to `a`, whose length is
@@ -79,7 +92,14 @@ impl<'f> Machine<'f> {
         ensures function { self.new ≡ self.old }
         ensures meaning { answer_of result a.new ≡ answer (ran self.old (fractions_of x.now) (fractions_of w.now)) }
     {
-        run_function(self.fun, x, w, self.t.as_mut_slice(), a)
+        run_function(
+            self.fun,
+            self.busy.as_slice(),
+            x,
+            w,
+            self.t.as_mut_slice(),
+            a,
+        )
     }
 }
 

@@ -4,7 +4,7 @@ use Rattle.std.proofs.lemmas.List.{append-nil}
 use Rattle.ratio.specs.declared.reduced.Ratio.{Ratio}
 use Rattle.c_unit.specs.declared.unit.CStmt.{CStmt}
 use Rattle.c_unit.specs.declared.unit.CStmt.TheViews as View
-use Rattle.c_unit.specs.Rules.{Sizes}
+use Rattle.c_unit.specs.Rules.{Sizes, Keeps, keeps_loop, KeepAll, keep_none, keep_more}
 use Rattle.c_unit.specs.Meaning.{deeper, counted, counted-For, counted_list}
 use Rattle.c_text.specs.declared.refusal.KernelKind.TheVariants as kinds
 use Rattle.c_text.specs.declared.statement.Body.{Body}
@@ -16,7 +16,6 @@ use Rattle.c_text.specs.Numbers.{counter_value}
 use Rattle.c_text.specs.Fractions.{is_number}
 use Rattle.c_text.specs.Places.{number_at}
 use Rattle.c_text.specs.Statements.{call_at, own_counter_at, turns_at, header_at, capped, line_of_first, line_ahead, loop_by, call_line_at, is_statement, no_body, with_line, add_line, body_at, line_at}
-use Rattle.c_text.specs.Lawful.{Keeps, keeps_loop, KeepAll, keep_none, keep_more}
 use Rattle.c_text.specs.Lines.{behind, one_lines, one_lines-For, body_lines}
 use Rattle.c_text.proofs.Bodies.{body_from, line_loop_at, line_call_at}
 use Rattle.c_text.proofs.Eats.{Eats, bind_ok, eats_join, glue, taken, shifted, first_eaten, shift_ok, none_eaten}

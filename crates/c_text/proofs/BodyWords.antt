@@ -9,14 +9,13 @@ use Rattle.c_unit.specs.declared.unit.Place.{Place}
 use Rattle.c_unit.specs.declared.unit.Slot.{Slot}
 use Rattle.c_unit.specs.declared.unit.CStmt.{CStmt, Set, Copy, Abs, Inv, Add, Sub, Mul, Load}
 use Rattle.c_unit.specs.declared.unit.CStmt.TheViews as View
-use Rattle.c_unit.specs.Rules.{Sizes}
+use Rattle.c_unit.specs.Rules.{Sizes, KeepsTarget, KeepsSource, KeepsItem, Keeps, keeps_set, keeps_copy, keeps_abs, keeps_inv, keeps_add, keeps_sub, keeps_mul, keeps_load, keeps_loop, KeepAll, keep_none, keep_more}
 use Rattle.c_unit.specs.Meaning.{deeper, counted, counted-For, counted_list}
 use Rattle.c_text.specs.declared.statement.Body.{Body}
 use Rattle.c_text.specs.Stream.{Stream, ◌>>=◌, repeat, is_ahead}
 use Rattle.c_text.specs.Pieces.{words_of}
 use Rattle.c_text.specs.Layout.{header_pieces, close_pieces, one_pieces, one_pieces-For, body_pieces, end_pieces, counter, indent}
 use Rattle.c_text.specs.Statements.{call_at, own_counter_at, turns_at, header_at, capped, line_ahead, loop_by, is_call, is_statement, no_body, with_line, add_line, body_at, line_at}
-use Rattle.c_text.specs.Lawful.{KeepsTarget, KeepsSource, KeepsItem, Keeps, keeps_set, keeps_copy, keeps_abs, keeps_inv, keeps_add, keeps_sub, keeps_mul, keeps_load, keeps_loop, KeepAll, keep_none, keep_more}
 use Rattle.c_text.proofs.NumberLaws.{eqb_ne}
 use Rattle.c_text.proofs.Repeats.{one_more, all_read}
 use Rattle.c_text.proofs.Bodies.{body_from, line_loop_at}

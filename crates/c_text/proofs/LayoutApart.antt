@@ -16,12 +16,12 @@ use Rattle.c_unit.specs.declared.unit.Place.{Place}
 use Rattle.c_unit.specs.declared.unit.CStmt.{CStmt}
 use Rattle.c_unit.specs.declared.unit.CFun.{CFun}
 use Rattle.c_unit.specs.declared.unit.CUnit.{CUnit}
-use Rattle.c_unit.specs.Rules.{Sizes}
+use Rattle.c_unit.specs.Rules.{Sizes, HasNumbers, KeepsItem, KeepsSource, KeepsTarget, Keeps, keeps_set, keeps_copy, keeps_abs, keeps_inv, keeps_add, keeps_sub, keeps_mul, keeps_load, keeps_loop, KeepAll, keep_none, keep_more, KeepTables}
 use Rattle.c_unit.specs.Meaning.{deeper}
 use Rattle.c_text.specs.Lowest.{first, second}
 use Rattle.c_text.specs.Pieces.{Piece, Gap, Solid, Sign, blank, feed}
 use Rattle.c_text.specs.Layout.{number, counter, step_pieces, steps_pieces, slot_pieces, array_name, place_pieces, value_pieces, indent, call_pieces, test_pieces, both_pieces, table_name, item_pieces, header_pieces, close_pieces, one_pieces, one_pieces-For, body_pieces, fraction_pieces, more_items, items_pieces, table_pieces, tables_pieces, enum_pieces, signature_pieces, clear_pieces, slots_pieces, end_pieces, fun_pieces, funs_pieces, canonical}
-use Rattle.c_text.specs.Lawful.{HasNumbers, KeepsItem, KeepsSource, KeepsTarget, Keeps, keeps_set, keeps_copy, keeps_abs, keeps_inv, keeps_add, keeps_sub, keeps_mul, keeps_load, keeps_loop, KeepAll, keep_none, keep_more, KeepTables, KeepsRules, AllKeepRules, MeetsRules, all_inside, is_name}
+use Rattle.c_text.specs.Lawful.{KeepsRules, AllKeepRules, MeetsRules, all_inside, is_name}
 use Rattle.c_text.specs.Spelling.{tokens_of, Spells}
 use Rattle.c_text.proofs.NumberLaws.{eqb_ne}
 use Rattle.c_text.proofs.Lexing.{lex_gap, lex_include, lex_header, all_white, all_digits, or_second, decimal_digits, decimal_inside}
@@ -250,8 +250,8 @@ clear_good array n h k = record { apart = line_apart 0 _ (rw h (rw (solid_number
 slots_good : (f : CFun) → KeepsRules f → Good (slots_pieces f)
 unfolding is_white
 slots_good f keeps =
-    let t : f.t < 2 ^ 32 = let h = keeps.t in omega (arith, h) in
-    let a : f.a < 2 ^ 32 = let h = keeps.a in omega (arith, h) in
+    let t : f.t < 2 ^ 32 = let h = keeps.sizes.t in omega (arith, h) in
+    let a : f.a < 2 ^ 32 = let h = keeps.sizes.a in omega (arith, h) in
     let clears = good_then (clear_good (codes "T") f.t refl t) (clear_good (codes "A") f.a refl a) in
     record { apart = line_apart 0 _ (both (is_solid (decimal f.t)) (apart (clear_pieces (codes "T") f.t ++ clear_pieces (codes "A") f.a)) (solid_number f.t t) clears.apart); stops = line_stops 0 _ }
 
@@ -266,10 +266,10 @@ signature_apart name ps h k = rw (solid_name name h) k
 enum_apart : (f : CFun) (ps : List Piece) → KeepsRules f → apart ps ≡ true → apart (enum_pieces f ++ ps) ≡ true
 unfolding is_white
 enum_apart f ps keeps h =
-    let x : f.x < 2 ^ 32 = let k = keeps.x in omega (arith, k) in
-    let w : f.w < 2 ^ 32 = let k = keeps.w in omega (arith, k) in
-    let t : f.t < 2 ^ 32 = let k = keeps.t in omega (arith, k) in
-    let a : f.a < 2 ^ 32 = let k = keeps.a in omega (arith, k) in
+    let x : f.x < 2 ^ 32 = let k = keeps.sizes.x in omega (arith, k) in
+    let w : f.w < 2 ^ 32 = let k = keeps.sizes.w in omega (arith, k) in
+    let t : f.t < 2 ^ 32 = let k = keeps.sizes.t in omega (arith, k) in
+    let a : f.a < 2 ^ 32 = let k = keeps.sizes.a in omega (arith, k) in
     rw (solid_size f.name (codes "_X") keeps.name refl)
     (rw (solid_number f.x x)
     (rw (solid_size f.name (codes "_W") keeps.name refl)
@@ -285,9 +285,9 @@ fun_again f ps = simp append_assoc
 
 fun_apart : (f : CFun) (ps : List Piece) → KeepsRules f → apart ps ≡ true → apart (fun_pieces f ++ ps) ≡ true
 fun_apart f ps keeps h =
-    let few : length (map length f.tables) ≤ 2 ^ 32 = rw (length_lengths f.tables) keeps.numbered in
-    let tables = tables_good 0 f.tables (let k = keeps.numbered in omega (arith, k)) keeps.tables in
-    let rest = good_then (slots_good f keeps) (good_then tables (good_then (body_good keeps.statements few) (end_good ps h))) in
+    let few : length (map length f.tables) ≤ 2 ^ 32 = rw (length_lengths f.tables) keeps.sizes.numbered in
+    let tables = tables_good 0 f.tables (let k = keeps.sizes.numbered in omega (arith, k)) keeps.sizes.tables in
+    let rest = good_then (slots_good f keeps) (good_then tables (good_then (body_good keeps.sizes.statements few) (end_good ps h))) in
     let behind : List Piece = slots_pieces f ++ (tables_pieces 0 f.tables ++ (body_pieces 0 f.body ++ (end_pieces ++ ps))) in
     ap apart (fun_again f ps) ∙ enum_apart f (signature_pieces f.name ++ behind) keeps (signature_apart f.name behind keeps.name rest.apart)
 

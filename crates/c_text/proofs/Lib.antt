@@ -23,3 +23,8 @@ pub mod BodyTold
 pub mod TokenTold
 pub mod UnitTold
 pub mod Answered
+pub mod Local
+pub mod LocalReads
+pub mod LocalSlot
+pub mod LocalUnits
+pub mod Places

@@ -8,18 +8,17 @@ use Rattle.c_unit.specs.declared.unit.Array.{Array}
 use Rattle.c_unit.specs.declared.unit.Array.TheVariants.{X, W, T, A}
 use Rattle.c_unit.specs.declared.unit.Slot.{Slot}
 use Rattle.c_unit.specs.declared.unit.Place.{Place}
-use Rattle.c_unit.specs.Rules.{greatest, Sizes, IsSlot, IsSource}
+use Rattle.c_unit.specs.Rules.{greatest, Sizes, IsSlot, IsSource, KeepsItem, KeepsSource, KeepsTarget}
 use Rattle.c_text.specs.declared.refusal.KernelRefusal.{KernelRefusal}
 use Rattle.c_text.specs.declared.refusal.KernelKind.TheVariants as kinds
 use Rattle.c_text.specs.declared.place.Scope.{Scope}
 use Rattle.c_text.specs.declared.place.Steps.{Steps}
-use Rattle.c_text.specs.Stream.{Stream, ◌>>=◌, refusal, shift, expect, expects, repeat, is_ahead}
+use Rattle.c_text.specs.Stream.{Stream, ◌>>=◌, refusal, shift, expect, expects, repeat_while}
 use Rattle.c_text.specs.Pieces.{Piece, Sign, words_of}
 use Rattle.c_text.specs.Layout.{step_pieces, steps_pieces, slot_pieces, place_pieces, counter, array_name}
 use Rattle.c_text.specs.Lowest.{first, second}
 use Rattle.c_text.specs.Numbers.{small_value, counter_value}
-use Rattle.c_text.specs.Places.{required, number_at, counter_between, counter_at, factor_at, step_at, with_step, add_step, no_steps, steps_at, slot_at, array_at, array_named, slot_of, size_in, written, target_at, source_at}
-use Rattle.c_text.specs.Lawful.{KeepsItem, KeepsSource, KeepsTarget}
+use Rattle.c_text.specs.Places.{required, number_at, counter_between, counter_at, factor_at, step_at, with_step, add_step, no_steps, goes_on, steps_at, slot_at, array_at, array_named, slot_of, size_in, written, target_at, source_at}
 use Rattle.c_text.proofs.Eats.{Eats, bind_ok, eats_join, glue, taken, shifted}
 use Rattle.c_text.proofs.NumberTexts.{small_back, counter_back}
 use Rattle.c_text.proofs.PlaceWords.{scope_of, same_size, one_step}
@@ -105,9 +104,6 @@ step_told from depth s x h =
 
 -- ---- multiples of counters
 
-abbrev plus : Stream → Bool
-plus s = is_ahead (codes "+") s
-
 -- the multiples of the counters from k on, of which there are n
 abbrev tail : ℕ → ℕ → List ℕ → List Piece
 tail zero k xs = []
@@ -120,7 +116,7 @@ record Begun (from depth : ℕ) (xs : List ℕ) : Type 0 where
   none : (k : ℕ) → from ≤ k → slice_index xs k ≡ 0
   within : from ≤ depth
 
-set_other : (xs : List ℕ) (c f j : ℕ) → (j ≡ c → ⊥) → slice_index (slice_set xs c f) j ≡ slice_index xs j
+pub set_other : (xs : List ℕ) (c f j : ℕ) → (j ≡ c → ⊥) → slice_index (slice_set xs c f) j ≡ slice_index xs j
 set_other xs c f j h = get_or-set_other xs c j f 0 h
 
 set_same : (xs : List ℕ) (c f : ℕ) → c < length xs → slice_index (slice_set xs c f) c ≡ f
@@ -206,23 +202,23 @@ went_on depth a s y x four b h more =
     }
 
 Onwards : ℕ → ℕ → Steps → Stream → Steps × Stream → Type 0
-Onwards depth n a s x = (y : (ℕ × ℕ × ℕ) × Stream) → step_at a.from depth s ≡ Ok y → repeat plus (add_step depth) n (with_step a y.0) y.1 ≡ Ok x → StepsTold depth (with_step a y.0) y.1 x
+Onwards depth n a s x = (y : (ℕ × ℕ × ℕ) × Stream) → step_at a.from depth s ≡ Ok y → repeat_while (goes_on depth) (add_step depth) n (with_step a y.0) y.1 ≡ Ok x → StepsTold depth (with_step a y.0) y.1 x
 
 repeat_by : (t : Bool) (depth n : ℕ) (a : Steps) (s : Stream) (x : Steps × Stream) → depth ≤ 4 → Begun a.from depth a.steps
-    → (if t then (add_step depth a s >>= λ x. repeat plus (add_step depth) n x.0 x.1) else Ok (a, s)) ≡ Ok x → Onwards depth n a s x → StepsTold depth a s x
+    → (if t then (add_step depth a s >>= λ x. repeat_while (goes_on depth) (add_step depth) n x.0 x.1) else Ok (a, s)) ≡ Ok x → Onwards depth n a s x → StepsTold depth a s x
 unfolding Onwards
 repeat_by false depth n a s x four b h more = stopped depth a s x (ends (a, s) x h) b
 repeat_by true depth n a s x four b h more =
     let p = bind_ok (add_step depth a s) _ x h in
     let q = bind_ok (step_at a.from depth s) _ p.0 p.1 in
     let e = ends (with_step a q.0.0, q.0.1) p.0 q.2 in
-    went_on depth a s q.0 x four b q.1 (more q.0 q.1 (subst (λ y. repeat plus (add_step depth) n y.0 y.1 ≡ Ok x) (sym e) p.2))
+    went_on depth a s q.0 x four b q.1 (more q.0 q.1 (subst (λ y. repeat_while (goes_on depth) (add_step depth) n y.0 y.1 ≡ Ok x) (sym e) p.2))
 
-repeat_told : (depth n : ℕ) (a : Steps) (s : Stream) (x : Steps × Stream) → depth ≤ 4 → Begun a.from depth a.steps → repeat plus (add_step depth) n a s ≡ Ok x → StepsTold depth a s x
-unfolding repeat Onwards
+repeat_told : (depth n : ℕ) (a : Steps) (s : Stream) (x : Steps × Stream) → depth ≤ 4 → Begun a.from depth a.steps → repeat_while (goes_on depth) (add_step depth) n a s ≡ Ok x → StepsTold depth a s x
+unfolding repeat_while Onwards
 repeat_told depth zero a s x four b h = stopped depth a s x (ends (a, s) x h) b
 repeat_told depth (suc n) a s x four b h =
-    repeat_by (plus s) depth n a s x four b h
+    repeat_by (goes_on depth a s) depth n a s x four b h
     (λ y k l. let t = step_told a.from depth s y k in repeat_told depth n (with_step a y.0) y.1 x four (begun_more a.from depth a.steps y.0.1 y.0.0 b t.3 t.4 four t.2) l)
 
 start_begun : (depth : ℕ) → Begun 0 depth no_steps

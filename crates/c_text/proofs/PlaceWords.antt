@@ -1,20 +1,19 @@
 -- Slots and places are read from their words
-use Rattle.std.proofs.Common.{◌≡◌, refl, sym, ◌∙◌, ap, subst, ℕ, zero, suc, ◌+◌, ◌<◌, ◌≤◌, ◌^◌, Bool, true, false, nat_lt, List, [], ◌∷◌, ◌++◌, length, slice_index, slice_set, Some, Ok, codes, decimal, arith, inl, inr, ◌⊎◌, ltb-true}
+use Rattle.std.proofs.Common.{◌≡◌, refl, sym, ◌∙◌, ap, subst, ℕ, zero, suc, ◌+◌, ◌<◌, ◌≤◌, ◌^◌, Bool, true, false, ◌&&◌, nat_lt, List, [], ◌∷◌, ◌++◌, length, slice_index, slice_set, Some, Ok, codes, decimal, arith, inl, inr, ◌⊎◌, ltb-true}
 use Rattle.std.proofs.lemmas.Bool.{lt-ltb, le-leb, lt-leb, ltb-false}
 use Rattle.c_unit.specs.declared.unit.Array.{Array}
 use Rattle.c_unit.specs.declared.unit.Array.TheVariants.{X, W, T, A}
 use Rattle.c_unit.specs.declared.unit.Slot.{Slot}
 use Rattle.c_unit.specs.declared.unit.Place.{Place}
-use Rattle.c_unit.specs.Rules.{greatest, StepsWithin, Sizes, IsSlot, IsSource, size_of}
+use Rattle.c_unit.specs.Rules.{greatest, StepsWithin, Sizes, IsSlot, IsSource, size_of, KeepsItem, KeepsSource, KeepsTarget, HasNumbers}
 use Rattle.c_text.specs.declared.place.Scope.{Scope}
 use Rattle.c_text.specs.declared.place.Steps.{Steps}
-use Rattle.c_text.specs.Stream.{Stream, ◌>>=◌, repeat, is_ahead}
+use Rattle.c_text.specs.Stream.{Stream, ◌>>=◌, repeat_while, is_ahead}
 use Rattle.c_text.specs.Pieces.{Sign, words_of}
 use Rattle.c_text.specs.Layout.{step_pieces, steps_pieces, slot_pieces, place_pieces, counter, array_name}
-use Rattle.c_text.specs.Places.{number_at, counter_between, counter_at, factor_at, step_at, with_step, add_step, no_steps, steps_at, slot_at, array_at, array_named, slot_of, size_in, written, target_at, source_at}
-use Rattle.c_text.specs.Lawful.{KeepsItem, KeepsSource, KeepsTarget, HasNumbers}
+use Rattle.c_text.specs.Places.{number_at, counter_between, counter_at, factor_at, step_at, with_step, add_step, no_steps, goes_on, steps_at, slot_at, array_at, array_named, slot_of, size_in, written, target_at, source_at}
 use Rattle.c_text.proofs.NumberLaws.{eqb_ne}
-use Rattle.c_text.proofs.Repeats.{one_more, all_read}
+use Rattle.c_text.proofs.Repeats.{while_one_more, while_all_read}
 use Rattle.c_text.proofs.Eats.{Eats, eats_split, cut, one_eaten, expected, is_ahead_of, eaten_length, none_eaten}
 use Rattle.c_text.proofs.NumberTexts.{small_decimal, counter_decimal}
 
@@ -60,22 +59,24 @@ record Onward (depth m : ℕ) (a : Steps) (s r : Stream) (from : ℕ) (steps : L
   room : length r.tokens ≤ k
   least : b.from ≤ from
   same : b.steps ≡ steps
-  onward : repeat plus (add_step depth) m a s ≡ repeat plus (add_step depth) k b r
+  onward : repeat_while (goes_on depth) (add_step depth) m a s ≡ repeat_while (goes_on depth) (add_step depth) k b r
 
 stays : (depth m : ℕ) (a : Steps) (s r : Stream) (k : ℕ) → length s.tokens ≤ m → a.from ≤ k → Eats [] s r → slice_set a.steps k 0 ≡ a.steps
     → Onward depth m a s r (k + 1) (slice_set a.steps k 0)
 stays depth m a s r k l f e same =
     let q = eaten_length [] s r e in
     let h = none_eaten s r e in
-    record { b = a; k = m; room = omega (arith, q, l); least = omega (arith, f); same = sym same; onward = ap (repeat plus (add_step depth) m a) h }
+    record { b = a; k = m; room = omega (arith, q, l); least = omega (arith, f); same = sym same; onward = ap (repeat_while (goes_on depth) (add_step depth) m a) h }
 
 steps_on : (depth m n : ℕ) (a : Steps) (s r : Stream) (k : ℕ) → length s.tokens ≤ m → a.from ≤ k → k < depth → k < 4 → 0 < n → n < 2 ^ 32
     → Eats (codes "+" ∷ decimal n ∷ codes "*" ∷ counter k ∷ []) s r → Onward depth m a s r (k + 1) (slice_set a.steps k n)
 steps_on depth m n a s r k l f d four some small e =
     let p = step_read a.from depth k n s r f d (omega (arith, four)) some small e in
     let q = eaten_length (codes "+" ∷ decimal n ∷ codes "*" ∷ counter k ∷ []) s r e in
-    let t = is_ahead_of (codes "+") (codes "+") (decimal n ∷ codes "*" ∷ counter k ∷ []) s r e in
-    let o = one_more plus (add_step depth) m (length s.tokens) (length r.tokens) (repeat plus (add_step depth) m a s) a s (with_step a (n, k, p.0), r) l (omega (arith, q)) refl t
+    let plus_ahead = is_ahead_of (codes "+") (codes "+") (decimal n ∷ codes "*" ∷ counter k ∷ []) s r e in
+    let below : a.from < depth = omega (arith, f, d) in
+    let t : goes_on depth a s ≡ true = rw plus_ahead (lt-ltb a.from depth below) in
+    let o = while_one_more (goes_on depth) (add_step depth) m (length s.tokens) (length r.tokens) (repeat_while (goes_on depth) (add_step depth) m a s) a s (with_step a (n, k, p.0), r) l (omega (arith, q)) refl t
     (ap (λ x. x >>= λ x. Ok (with_step a x.0, x.1)) p.1) in
     record { b = with_step a (n, k, p.0); k = o.0; room = o.1; least = omega arith; same = refl; onward = o.2 }
 
@@ -125,7 +126,7 @@ steps_read depth line steps s r own four n0 n1 n2 n3 e stop =
     let k = next depth j.k (slice_index steps 3) j.b u.0 r 3 j.room j.least (own 3) (omega arith) n3 (rw j-same refl) u.2 in
     let k-same = k.same ∙ ap (λ xs. slice_set xs 3 (slice_index steps 3)) j-same in (
       k.b,
-      all_read plus (add_step depth) k.k _ k.b r (o.onward ∙ i.onward ∙ j.onward ∙ k.onward) stop,
+      while_all_read (goes_on depth) (add_step depth) k.k _ k.b r (o.onward ∙ i.onward ∙ j.onward ∙ k.onward) (ap (λ t. t && nat_lt k.b.from depth) stop),
       k-same ∙ sym (four_items steps four),
     )
 

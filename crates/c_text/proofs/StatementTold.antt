@@ -5,7 +5,7 @@ use Rattle.slices.specs.Tokens.{Token}
 use Rattle.c_unit.specs.declared.unit.Array.TheVariants.{T}
 use Rattle.c_unit.specs.declared.unit.Place.{Place}
 use Rattle.c_unit.specs.declared.unit.CStmt.{CStmt, Set, Copy, Abs, Inv, Add, Sub, Mul, Load}
-use Rattle.c_unit.specs.Rules.{Sizes}
+use Rattle.c_unit.specs.Rules.{Sizes, KeepsItem, KeepsSource, KeepsTarget, Keeps, keeps_set, keeps_copy, keeps_abs, keeps_inv, keeps_add, keeps_sub, keeps_mul, keeps_load}
 use Rattle.c_unit.specs.Meaning.{counted}
 use Rattle.c_text.specs.Stream.{Stream, shift, expect, expects, is_ahead}
 use Rattle.c_text.specs.Pieces.{Piece, Solid, Sign, blank, feed, words_of}
@@ -14,7 +14,6 @@ use Rattle.c_text.specs.Numbers.{table_value}
 use Rattle.c_text.specs.Places.{target_at, source_at, slot_at}
 use Rattle.c_text.specs.Fractions.{fraction_at}
 use Rattle.c_text.specs.Statements.{set_at, pair_at, copy_at, abs_at, inverse_at, triple_at, add_at, sub_at, mul_at, step_call_at, test_at, table_of, table_by, table_used_at, load_at, call_at, line_of_first}
-use Rattle.c_text.specs.Lawful.{KeepsItem, KeepsSource, KeepsTarget, Keeps, keeps_set, keeps_copy, keeps_abs, keeps_inv, keeps_add, keeps_sub, keeps_mul, keeps_load}
 use Rattle.c_text.specs.Lines.{one_lines}
 use Rattle.c_text.proofs.Eats.{Eats, bind_ok, eats_split, eats_join, glue, taken, shifted}
 use Rattle.c_text.proofs.NumberTexts.{table_back}

@@ -6,14 +6,13 @@ use Rattle.c_unit.specs.declared.unit.Array.TheVariants.{T}
 use Rattle.c_unit.specs.declared.unit.Slot.{Slot}
 use Rattle.c_unit.specs.declared.unit.Place.{Place}
 use Rattle.c_unit.specs.declared.unit.CStmt.{CStmt, Set, Copy, Abs, Inv, Add, Sub, Mul, Load}
-use Rattle.c_unit.specs.Rules.{Sizes}
+use Rattle.c_unit.specs.Rules.{Sizes, KeepsItem, KeepsSource, KeepsTarget}
 use Rattle.c_unit.specs.Meaning.{counted}
 use Rattle.c_text.specs.declared.statement.Line.{Line}
 use Rattle.c_text.specs.Stream.{Stream, is_ahead}
 use Rattle.c_text.specs.Pieces.{Solid, Sign, blank, feed, words_of}
 use Rattle.c_text.specs.Layout.{value_pieces, place_pieces, slot_pieces, call_pieces, test_pieces, both_pieces, item_pieces, table_name, indent}
 use Rattle.c_text.specs.Statements.{set_at, pair_at, copy_at, abs_at, inverse_at, triple_at, add_at, sub_at, mul_at, step_call_at, test_at, table_used_at, load_at, call_at, capped, line_ahead, call_line_at, is_call, is_statement, line_at}
-use Rattle.c_text.specs.Lawful.{KeepsItem, KeepsSource, KeepsTarget}
 use Rattle.c_text.proofs.Bodies.{line_call_at}
 use Rattle.c_text.proofs.Eats.{Eats, eats_split, eats_join, cut, one_eaten, expected, ahead_eaten, is_ahead_of, eaten_length}
 use Rattle.c_text.proofs.NumberTexts.{table_decimal}

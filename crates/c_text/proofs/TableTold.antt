@@ -13,14 +13,14 @@ use Rattle.ratio.proofs.Reading.{top_reads, bottom_reads}
 use Rattle.slices.specs.Tokens.{Token}
 use Rattle.c_text.specs.declared.refusal.KernelRefusal.{KernelRefusal}
 use Rattle.c_text.specs.declared.refusal.KernelKind.TheVariants as kinds
-use Rattle.c_text.specs.Stream.{Stream, Read, ◌>>=◌, refusal, shift, expect, expects, repeat, is_ahead}
+use Rattle.c_text.specs.Stream.{Stream, Read, ◌>>=◌, refusal, shift, expect, expects, repeat, repeat_while, is_ahead}
 use Rattle.c_text.specs.Pieces.{Sign, blank, feed, words_of}
 use Rattle.c_text.specs.Layout.{parts_pieces, value_pieces, fraction_pieces, more_items, items_pieces, table_name, table_pieces, tables_pieces, indent}
 use Rattle.c_text.specs.Numbers.{half_value, table_value}
 use Rattle.c_text.specs.Places.{number_at}
 use Rattle.c_text.specs.Lowest.{fraction_from, is_lowest, second}
 use Rattle.c_text.specs.Fractions.{sign_at, half_at, part_at, bound_by, fraction_at, item_at, further_item_at, add_item, further_items_at, items_at, is_number, table_name_at, is_miscounted, table_at, add_table, tables_at}
-use Rattle.c_text.specs.Lawful.{KeepTables}
+use Rattle.c_unit.specs.Rules.{KeepTables}
 use Rattle.c_text.proofs.LowestLaws.{none_from, some_from}
 use Rattle.c_text.proofs.Eats.{Eats, bind_ok, eats_join, glue, taken, shifted}
 use Rattle.c_text.proofs.NumberTexts.{half_back, table_back}
@@ -39,11 +39,11 @@ repeats_by true more one n a s x e h = let p = bind_ok (one a s) _ x h in goes_o
 repeats_by false more one n a s x e h = stops e (ends (a, s) x h)
 
 pub repeats : {A : Type 0} (more : Stream → Bool) (one : A → Stream → Read A) (n : ℕ) (a : A) (s : Stream) (x : A × Stream) → repeat more one (suc n) a s ≡ Ok x → Repeats more one n a s x
-unfolding repeat
+unfolding repeat_while
 repeats more one n a s x h = repeats_by (more s) more one n a s x refl h
 
 pub repeats_none : {A : Type 0} (more : Stream → Bool) (one : A → Stream → Read A) (a : A) (s : Stream) (x : A × Stream) → repeat more one zero a s ≡ Ok x → (a, s) ≡ x
-unfolding repeat
+unfolding repeat_while
 repeats_none more one a s x h = ends (a, s) x h
 
 -- ---- fractions

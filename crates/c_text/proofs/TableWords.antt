@@ -14,7 +14,7 @@ use Rattle.c_text.specs.Pieces.{Sign, blank, feed, words_of}
 use Rattle.c_text.specs.Layout.{value_pieces, fraction_pieces, more_items, items_pieces, table_name, table_pieces, tables_pieces, indent}
 use Rattle.c_text.specs.Lowest.{fraction_from}
 use Rattle.c_text.specs.Fractions.{sign_at, half_at, part_at, fraction_at, item_at, further_item_at, add_item, further_items_at, items_at, table_name_at, is_miscounted, table_at, add_table, tables_at}
-use Rattle.c_text.specs.Lawful.{KeepTables}
+use Rattle.c_unit.specs.Rules.{KeepTables}
 use Rattle.c_text.proofs.NumberLaws.{eqb_ne}
 use Rattle.c_text.proofs.LowestLaws.{kept}
 use Rattle.c_text.proofs.Repeats.{one_more, all_read}

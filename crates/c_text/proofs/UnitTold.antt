@@ -21,7 +21,8 @@ use Rattle.c_text.specs.Places.{number_at}
 use Rattle.c_text.specs.Fractions.{tables_at}
 use Rattle.c_text.specs.Statements.{body_at, capped, line_of_first}
 use Rattle.c_text.specs.Units.{without_suffix, is_among, new_name, name_at, size_at, is_name, named_size_at, repeated_at, parameters, signature_at, clear_at, slots_at, end_at, one_turn_each, sizes_at, function_at, is_more, is_more_by, with_function, add_function, no_functions, functions_at, fault_by, fault_at_end, finished, reading}
-use Rattle.c_text.specs.Lawful.{KeepsRules, NewName, AllKeepRules, MeetsRules, sizes_of}
+use Rattle.c_unit.specs.Rules.{NewName, sizes_of, KeepTables}
+use Rattle.c_text.specs.Lawful.{KeepsRules, AllKeepRules, MeetsRules}
 use Rattle.c_text.specs.Spelling.{tokens_of, texts, Spells}
 use Rattle.c_text.specs.Lines.{behind, body_lines, head_pieces, enum_lines, statement_lines, IsLined}
 use Rattle.c_text.proofs.Eats.{Eats, bind_ok, eats_split, eats_join, glue, taken, shifted, shift_ok, expect_ok, first_eaten, none_eaten, eaten_length, end_kept}
@@ -281,14 +282,17 @@ function_told funs s y toks h =
       keeps =
           record {
             name = sizes.good;
-            x = sizes.x;
-            w = sizes.w;
-            t = sizes.t;
-            a = sizes.a;
-            some_temporaries = let k = sizes.some in omega (arith, k);
-            numbered = tables.few;
-            tables = subst Rattle.c_text.specs.Lawful.KeepTables (sym tables.same) tables.keeps;
-            statements = body.keeps;
+            sizes =
+                record {
+                  x = sizes.x;
+                  w = sizes.w;
+                  t = sizes.t;
+                  a = sizes.a;
+                  some_temporaries = let k = sizes.some in omega (arith, k);
+                  numbered = tables.few;
+                  tables = subst KeepTables (sym tables.same) tables.keeps;
+                  statements = body.keeps;
+                };
             count = few_counted b.0.0.count (counted_list b.0.0.statements) body.count end.1;
           };
       new = sizes.new;

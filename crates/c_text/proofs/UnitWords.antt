@@ -21,7 +21,8 @@ use Rattle.c_text.specs.Layout.{indent, enum_pieces, signature_pieces, clear_pie
 use Rattle.c_text.specs.Fractions.{tables_at}
 use Rattle.c_text.specs.Statements.{capped}
 use Rattle.c_text.specs.Units.{without_suffix, is_among, name_at, size_at, named_size_at, repeated_at, parameters, signature_at, clear_at, slots_at, end_at, one_turn_each, sizes_at, function_at, is_more, is_more_by, with_function, add_function, no_functions, functions_at, fault_at_end, reading}
-use Rattle.c_text.specs.Lawful.{KeepsRules, NewName, AllKeepRules, MeetsRules, sizes_of}
+use Rattle.c_unit.specs.Rules.{NewName, sizes_of}
+use Rattle.c_text.specs.Lawful.{KeepsRules, AllKeepRules, MeetsRules}
 use Rattle.c_text.specs.Spelling.{tokens_of, texts, Spells}
 use Rattle.c_text.proofs.NumberLaws.{eqb_ne}
 use Rattle.c_text.proofs.Repeats.{one_more, all_read}
@@ -95,8 +96,8 @@ slots_read f s r keeps e =
     let b = eats_split (decimal f.t ∷ []) _ a.0 r a.2 in
     let c = eats_split (codes "]" ∷ codes ";" ∷ []) _ b.0 r b.2 in
     let d = cut (clear_pieces (codes "T") f.t) (clear_pieces (codes "A") f.a) c.0 r c.2 in
-    let small : f.t < 2 ^ 32 = let h = keeps.t in omega (arith, h) in
-    let few : f.a < 2 ^ 32 = let h = keeps.a in omega (arith, h) in
+    let small : f.t < 2 ^ 32 = let h = keeps.sizes.t in omega (arith, h) in
+    let few : f.a < 2 ^ 32 = let h = keeps.sizes.a in omega (arith, h) in
     rw a.1 (rw (again_read f.t a.0 b.0 small b.1) (rw c.1 (rw (clear_read (codes "T") f.t c.0 d.0 small d.1) (clear_read (codes "A") f.a d.0 r few d.2))))
 
 abbrev scope_in : CFun → Scope
@@ -116,10 +117,10 @@ sizes_read funs f s r keeps new e =
     let o = expected (codes "{") s a.0 a.1 in
     rw o.1
     (rw (name_read funs f.name a.0 b.0 new keeps.name b.1)
-    (rw (size_read 0 f.x b.0 c.0 (omega arith) keeps.x c.1)
-    (rw (named_read f.name (codes "_W") 0 f.w c.0 d.0 (omega arith) keeps.w d.1)
-    (rw (named_read f.name (codes "_T") 1 f.t d.0 g.0 (let k = keeps.some_temporaries in omega (arith, k)) keeps.t g.1)
-    (rw (named_read f.name (codes "_A") 0 f.a g.0 h.0 (omega arith) keeps.a h.1) (rw h.2 refl))))))
+    (rw (size_read 0 f.x b.0 c.0 (omega arith) keeps.sizes.x c.1)
+    (rw (named_read f.name (codes "_W") 0 f.w c.0 d.0 (omega arith) keeps.sizes.w d.1)
+    (rw (named_read f.name (codes "_T") 1 f.t d.0 g.0 (let k = keeps.sizes.some_temporaries in omega (arith, k)) keeps.sizes.t g.1)
+    (rw (named_read f.name (codes "_A") 0 f.a g.0 h.0 (omega arith) keeps.sizes.a h.1) (rw h.2 refl))))))
 
 -- ---- functions
 
@@ -160,8 +161,8 @@ rest_read f s r keeps e =
     let b = cut (body_pieces 0 f.body) end_pieces a.0 r a.2 in (
       a.0,
       b.0,
-      tables_read f.tables s a.0 keeps.numbered keeps.tables a.1 (tables_end keeps.statements a.0 r a.2),
-      body_whole keeps.statements f.tables 4 a.0 b.0 refl (rw (length_lengths f.tables) keeps.numbered) (omega arith) b.1 (at_return b.0 r b.2),
+      tables_read f.tables s a.0 keeps.sizes.numbered keeps.sizes.tables a.1 (tables_end keeps.sizes.statements a.0 r a.2),
+      body_whole keeps.sizes.statements f.tables 4 a.0 b.0 refl (rw (length_lengths f.tables) keeps.sizes.numbered) (omega arith) b.1 (at_return b.0 r b.2),
       b.2,
     )
 
@@ -257,3 +258,14 @@ unit_read u text keeps spells short =
       rw (le-ltb 268435456 (length text) short) (rw spells.nothing_else (rw a.1 (rw f.read refl))),
       ap (λ fs. record { funs = fs }) f.funs,
     )
+
+-- the tokens of a lawful unit's words are read to their end
+pub words_read : (u : CUnit) (ts : List Token) (end : KernelRefusal) → MeetsRules u → texts ts ≡ words_of (unit_pieces u)
+    → (r : ReadUnit) × ((expects (codes "#include" ∷ codes "\"fr.h\"" ∷ []) (record { tokens = ts; end = end }) >>= λ h. functions_at h.1) ≡ Ok (r, record { tokens = []; end = end }))
+unfolding functions_at
+words_read u ts end keeps words =
+    let s : Stream = record { tokens = ts; end = end } in
+    let e = all_eaten (words_of (unit_pieces u)) ts end words in
+    let a = eats_split (codes "#include" ∷ codes "\"fr.h\"" ∷ []) (words_of (funs_pieces u.funs)) s (record { tokens = []; end = end }) e in
+    let f = functions_on [] u.funs (length a.0.tokens) no_functions a.0 (record { tokens = []; end = end }) keeps refl (omega arith) a.2 (no_tokens end) in
+    (f.unit, rw a.1 f.read)

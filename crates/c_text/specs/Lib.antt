@@ -14,3 +14,4 @@ pub mod Lawful
 pub mod Spelling
 pub mod Lines
 pub mod Names
+pub mod Refused

@@ -8,7 +8,7 @@ use Rattle.c_unit.specs.Rules.{greatest}
 use Rattle.c_text.specs.declared.refusal.KernelKind.TheVariants as kinds
 use Rattle.c_text.specs.declared.place.Scope.{Scope}
 use Rattle.c_text.specs.declared.place.Steps.{Steps}
-use Rattle.c_text.specs.Stream.{Stream, Read, ◌>>=◌, refusal, shift, expect, repeat, is_ahead}
+use Rattle.c_text.specs.Stream.{Stream, Read, ◌>>=◌, refusal, shift, expect, repeat_while, is_ahead}
 use Rattle.c_text.specs.Numbers.{small_value, counter_value}
 
 -- a value and the line of its token; Syntax where there is none
@@ -56,9 +56,16 @@ add_step depth a s = step_at a.from depth s >>= λ x. Ok (with_step a x.0, x.1)
 abbrev pub no_steps : List ℕ
 no_steps = 0 ∷ 0 ∷ 0 ∷ 0 ∷ []
 
--- { "+" N "*" I } behind a number of this line
+-- A sign + is ahead, and a counter of an enclosing loop can stand behind it.
+abbrev pub is_step_ahead : ℕ → ℕ → Stream → Bool
+is_step_ahead from depth s = is_ahead (codes "+") s && nat_lt from depth
+
+abbrev pub goes_on : ℕ → Steps → Stream → Bool
+goes_on depth a s = is_step_ahead a.from depth s
+
+-- { "+" N "*" I } behind a number of this line, as long as a counter can stand behind the sign +
 unfoldable pub steps_at : ℕ → ℕ → Stream → Read Steps
-steps_at depth line s = repeat (is_ahead (codes "+")) (add_step depth) (length s.tokens) (record { steps = no_steps; from = 0; line = line }) s
+steps_at depth line s = repeat_while (goes_on depth) (add_step depth) (length s.tokens) (record { steps = no_steps; from = 0; line = line }) s
 
 -- a slot number whose greatest value is below the size
 unfoldable pub slot_at : Scope → ℕ → Stream → Read Slot

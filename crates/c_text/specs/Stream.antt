@@ -88,10 +88,14 @@ expects (w ∷ ws) s = do
   t ← expect w s
   expects ws t.1
 
--- As long as the test holds, one more is read on top of what there is, at most so many times.
-unfoldable pub repeat : {A : Type 0} → (Stream → Bool) → (A → Stream → Read A) → ℕ → A → Stream → Read A
-repeat more one zero a s = Ok (a, s)
-repeat more one (suc n) a s = if more s then (one a s >>= λ x. repeat more one n x.0 x.1) else Ok (a, s)
+-- As long as the test holds of what there is and what is ahead, one more is read on top, at most so many times.
+unfoldable pub repeat_while : {A : Type 0} → (A → Stream → Bool) → (A → Stream → Read A) → ℕ → A → Stream → Read A
+repeat_while more one zero a s = Ok (a, s)
+repeat_while more one (suc n) a s = if more a s then (one a s >>= λ x. repeat_while more one n x.0 x.1) else Ok (a, s)
+
+-- the same where the test is of what is ahead alone
+abbrev pub repeat : {A : Type 0} → (Stream → Bool) → (A → Stream → Read A) → ℕ → A → Stream → Read A
+repeat more one n a s = repeat_while (λ _ s. more s) one n a s
 
 -- the next token is this one
 abbrev pub is_ahead : List ℕ → Stream → Bool

@@ -4,7 +4,7 @@ ghost use Rattle.std.specs.Prelude.{◌≡◌, ◌<◌, ◌≤◌, ℕ, OnOk, If
 ghost use Rattle.c_text.specs.Stream.{Gives};
 ghost use Rattle.c_unit.specs.Rules.{greatest as greatest_of};
 ghost use Rattle.c_text.specs.Parser.{stream, left};
-ghost use Rattle.c_text.specs.Places.{number_at, counter_at, factor_at, step_at, steps_at, slot_at, array_at, slot_of as slot_in, target_at, source_at, size_in};
+ghost use Rattle.c_text.specs.Places.{number_at, counter_at, factor_at, step_at, steps_at, is_step_ahead as step_is_ahead, slot_at, array_at, slot_of as slot_in, target_at, source_at, size_in};
 
 use crate::number::{counter_number, small};
 use crate::parser::{Parser, syntax};
@@ -117,7 +117,14 @@ impl<'a> Parser<'a> {
         Ok((factor, counter, line))
     }
 
-    // The multiples of counters behind a number of this line.
+    // Whether a multiple of a counter follows: a `+`, where a counter from this one on is enclosed.
+    fn is_step_ahead(&self, from: u32, depth: u32) -> bool
+        ensures { result ≡ step_is_ahead from depth (stream self.now) }
+    {
+        self.next_is(b"+") && from < depth
+    }
+
+    // The multiples of counters behind a number of this line, as far as a counter can follow.
     #[tactic(auto, unfolding(crate::specs::Places::steps_at))]
     fn steps(&mut self, depth: u32, line: u32) -> Result<Steps, ReadFault>
         requires { depth ≤ 4 }
@@ -128,7 +135,7 @@ impl<'a> Parser<'a> {
         let mut from = 0;
         let mut last = line;
         'all: loop {
-            if !self.next_is(b"+") {
+            if !self.is_step_ahead(from, depth) {
                 return Ok(Steps {
                     steps,
                     from,

@@ -1,12 +1,13 @@
 // Functions and units.
 
-ghost use Rattle.std.specs.Prelude.{◌≡◌, ◌<◌, ◌≤◌, ◌^◌, ◌||◌, ℕ, List, not, bytes_eq, length, OnOk, IfOk, option_map};
+ghost use Rattle.std.specs.Prelude.{◌≡◌, ◌<◌, ◌≤◌, ◌^◌, ◌||◌, ℕ, List, not, bytes_eq, length, OnOk, IfOk, IfErr, option_map};
 ghost use Rattle.c_unit.specs.declared.unit.CUnit.{CUnit};
 ghost use Rattle.c_text.specs.Stream.{Gives};
 ghost use Rattle.c_text.specs.Parser.{stream, left};
 ghost use Rattle.c_text.specs.Lawful.{MeetsRules};
 ghost use Rattle.c_text.specs.Names.{has_name, AreNames, AreNamesWith};
 ghost use Rattle.c_text.specs.Lines.{IsLined};
+ghost use Rattle.c_text.specs.Refused.{IsPlace};
 ghost use Rattle.c_text.specs.Spelling.{Spells, IsTaken};
 ghost use Rattle.c_text.specs.Units.{without_suffix as front_of, name_at, size_at, named_size_at, repeated_at, signature_at, clear_at, slots_at, end_at, sizes_at, function_at, functions_at, is_more as is_more_ahead, fault_at_end as fault_of_end, reading, Answers, IsRead};
 
@@ -18,7 +19,7 @@ use crate::statement::Body;
 use c_unit::{CFun, CUnit};
 use sqlite_items::Items;
 use std::alloc::{AllocError, Global};
-use std::collections::HashSet;
+use std::collections::BTreeSet;
 
 /// The greatest number of bytes.
 const LONGEST: usize = 0x1000_0000;
@@ -53,8 +54,9 @@ fn without_suffix<'t>(text: &'t [u8], suffix: &[u8]) -> Option<&'t [u8]>
     if back == suffix { Some(front) } else { None }
 }
 
-// Takes a name up among the others; the answer is whether it is new.
-fn take_up<'t>(names: &mut HashSet<&'t [u8]>, name: &'t [u8]) -> Result<bool, AllocError>
+// Takes a name up among the others; the answer is whether it is new. They are kept in order, since names can be chosen
+// to meet in a hash.
+fn take_up<'t>(names: &mut BTreeSet<&'t [u8]>, name: &'t [u8]) -> Result<bool, AllocError>
     ensures fresh { IfOk result (λ b. not b ≡ has_name names.old name.now) }
     ensures now { OnOk result ((n : List ℕ) → has_name names.new n ≡ (bytes_eq name.now n || has_name names.old n)) }
 {
@@ -64,7 +66,7 @@ fn take_up<'t>(names: &mut HashSet<&'t [u8]>, name: &'t [u8]) -> Result<bool, Al
 impl<'a> Parser<'a> {
     // The name of a function, from the first word between the brackets; `names` has those of the functions before it.
     #[tactic(auto, unfolding(crate::specs::Units::name_at))]
-    fn name(&mut self, names: &mut HashSet<&'a [u8]>, funs: &[CFun]) -> Result<&'a [u8], ReadFault>
+    fn name(&mut self, names: &mut BTreeSet<&'a [u8]>, funs: &[CFun]) -> Result<&'a [u8], ReadFault>
         requires { AreNames names.old funs.now }
         ensures read { Gives (λ n. n.now) result (stream self.new) (name_at funs.now (stream self.old)) }
         ensures shorter { OnOk result (left self.new < left self.old) }
@@ -179,7 +181,7 @@ impl<'a> Parser<'a> {
     #[tactic(auto, unfolding(crate::specs::Units::sizes_at))]
     fn sizes(
         &mut self,
-        names: &mut HashSet<&'a [u8]>,
+        names: &mut BTreeSet<&'a [u8]>,
         funs: &[CFun],
     ) -> Result<(&'a [u8], Scope), ReadFault>
         requires { AreNames names.old funs.now }
@@ -212,7 +214,7 @@ impl<'a> Parser<'a> {
     fn function(
         &mut self,
         alloc: Global,
-        names: &mut HashSet<&'a [u8]>,
+        names: &mut BTreeSet<&'a [u8]>,
         funs: &[CFun],
     ) -> Result<ReadFun, ReadFault>
         requires { AreNames names.old funs.now }
@@ -249,7 +251,7 @@ impl<'a> Parser<'a> {
     fn functions(&mut self, alloc: Global) -> Result<ReadUnit, ReadFault>
         ensures { Gives (λ x. x) result (stream self.new) (functions_at (stream self.old)) }
     {
-        let mut names = HashSet::new(alloc);
+        let mut names = BTreeSet::new(alloc);
         let mut funs = Items::new(alloc);
         let mut enums = Items::new(alloc);
         let mut all_lines = Items::new(alloc);
@@ -309,11 +311,16 @@ fn read_all(alloc: Global, text: &[u8]) -> Result<ReadUnit, ReadFault>
 /// The unit of a text, or the first place where it is refused.
 ///
 /// A text is taken exactly where it spells a unit that meets the rules: its words and signs are those of the unit, in their order.
+///
+/// The line of a refusal is where the text goes wrong: for Lex no token starts there; for Slot and Bound it has a token with
+/// which, after those before it, no text of a unit that meets the rules begins; and for Syntax such a token, or the end of
+/// a text of tokens alone.
 pub fn read_unit(alloc: Global, text: &[u8]) -> Result<ReadUnit, KernelRefusal>
     ensures exact { Answers result (reading text.now) }
     ensures spelled { IfOk result (λ r. Spells text.now r.unit) }
     ensures lawful { IfOk result (λ r. MeetsRules r.unit) }
     ensures lined { IfOk result (λ r. IsLined text.now r) }
+    ensures place { IfErr result (λ e. IsPlace e.kind text.now e.line) }
     ensures taken { (u : CUnit) → MeetsRules u → Spells text.now u → length text.now ≤ 2 ^ 28 → IsTaken result u }
 {
     match read_all(alloc, text) {

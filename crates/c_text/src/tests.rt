@@ -50,7 +50,37 @@ fn kernel_with(alloc: Global, number: usize, line: &[u8]) -> Result<Vec<u8>, All
     Ok(text)
 }
 
-const CASES: [(usize, &[u8], KernelKind, u32); 34] = [
+const CASES: [(usize, &[u8], KernelKind, u32); 39] = [
+    (
+        11,
+        b"  if (fr_mul(&A[4+1*i0], &T[0], &T[1])) return 1;",
+        KernelKind::Slot,
+        11,
+    ),
+    (
+        11,
+        b"  if (fr_mul(&A[3\n+\n1*i0], &T[0], &T[1])) return 1;",
+        KernelKind::Syntax,
+        12,
+    ),
+    (
+        9,
+        b"  for (int i0 = 0; i0 < 1; i0++) { fr_copy(&T[2+1*\ni0\n+1*i1], &X[0]); }",
+        KernelKind::Slot,
+        10,
+    ),
+    (
+        9,
+        b"  for (int i0 = 0; i0 < 1; i0++) { fr_copy(&T[1+1*\ni0\n+1*i1], &X[0]); }",
+        KernelKind::Syntax,
+        11,
+    ),
+    (
+        9,
+        b"  for (int i0 = 0; i0 < 1; i0++) { fr_copy(&T[2\n+1*\ni0], &X[0]); }",
+        KernelKind::Slot,
+        11,
+    ),
     (
         11,
         b"  if (fr_mul(&A[4], &T[0], &T[1])) return 1;",

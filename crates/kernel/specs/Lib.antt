@@ -1,4 +1,3 @@
 pub mod Ends
 pub mod MassShare
 pub mod Statements
-pub mod Straight

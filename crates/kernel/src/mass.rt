@@ -4,11 +4,11 @@ ghost use Rattle.std.specs.Prelude.{◌≡◌, ℕ, ◌*◌, ◌<◌, ◌≤◌,
 ghost use Rattle.algebra.specs.Fraction.{Fraction, mul, inverse, of_integer};
 ghost use Rattle.ratio.specs.Value.{fraction_of};
 ghost use Rattle.c_unit.specs.Meaning.{counted_list, ran};
+ghost use Rattle.c_unit.specs.Rules.{KeepsSizes};
 ghost use Rattle.kernel.specs.MassShare.{IsSmallFactor, mass_outcome, outcome};
 ghost use Rattle.c_unit.specs.declared.unit.Array.TheVariants.{A, T};
 ghost use Rattle.c_unit.specs.declared.unit.CStmt.{Mul, Set};
 ghost use Rattle.kernel.specs.Statements.{mass_statements, plain};
-ghost use Rattle.kernel.specs.Straight.{IsStraight};
 
 use crate::emit::{emit, plain};
 use c_unit::{Array, CFun, CStmt};
@@ -115,7 +115,7 @@ pub fn plan_mass(alloc: Global, name: &[u8], c: Ratio) -> Result<CFun, AllocErro
     ensures x { IfOk result (λ f. f.x ≡ 2) }
     ensures w { IfOk result (λ f. f.w ≡ 0) }
     ensures a { IfOk result (λ f. f.a ≡ 4) }
-    ensures lawful { IfOk result IsStraight }
+    ensures lawful { IfOk result KeepsSizes }
     ensures share { IfOk result (λ f. (x₀ x₁ : Fraction) → outcome (ran f (x₀ ∷ x₁ ∷ []) []) ≡ mass_outcome (fraction_of c) x₀ x₁) }
     ensures bound { IfOk result (λ f. counted_list f.body ≤ 224) }
 {

@@ -3,6 +3,7 @@ use Rattle.c_text.specs.Units.{reading}
 use Rattle.c_text.proofs.UnitLaws.{refuses}
 use Rattle.c_text.proofs.UnitTold.{unit_told}
 use Rattle.c_text.proofs.Answered.{taken}
+use Rattle.c_text.proofs.Places.{place_is}
 use Rattle.c_text.proofs.read.read_unit.Goals as goal
 
 pub returns-in-Ok-clause-spelled : goal.returns-in-Ok-clause-spelled
@@ -21,3 +22,8 @@ pub returns-in-Err-Refused-clause-taken : goal.returns-in-Err-Refused-clause-tak
 returns-in-Err-Refused-clause-taken c = λ u keeps spells short.
     let e = c.in-Err-Refused.refusal in
     taken (Err e) c.args.text.now (refuses e.kind e (reading c.args.text.now) (rw c.in-Err-Refused.field-0-is at c.in-Err-Refused.ensures)) u keeps spells short
+
+pub returns-in-Err-Refused-clause-place : goal.returns-in-Err-Refused-clause-place
+returns-in-Err-Refused-clause-place c =
+    let e = c.in-Err-Refused.refusal in
+    place_is c.args.text.now e (rw c.in-Err-Refused.field-0-is at c.in-Err-Refused.ensures)

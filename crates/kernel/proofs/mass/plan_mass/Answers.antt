@@ -5,7 +5,7 @@ use Rattle.c_unit.specs.Meaning.{run_list, tables_of}
 use Rattle.kernel.specs.MassShare.{outcome}
 use Rattle.kernel.proofs.MassLaw.{mass_kernel}
 use Rattle.kernel.proofs.MassRun.{slots_at, zeros}
-use Rattle.kernel.proofs.MassWithin.{keeps_within}
+use Rattle.kernel.proofs.MassWithin.{keeps_sizes}
 use Rattle.kernel.proofs.mass.plan_mass.Goals as goal
 
 pub returns-clause-share : goal.returns-clause-share
@@ -15,4 +15,4 @@ returns-clause-share c = λ x₀ x₁.
     ∙ mass_kernel c.over.result c.over-2.result (fraction_of c.args.c) c.over.ensures c.over-2.ensures x₀ x₁ ks
 
 pub returns-clause-lawful : goal.returns-clause-lawful
-returns-clause-lawful c = keeps_within _ c.over.result c.over-2.result c.in_ok-body.ensures c.new.ensures refl refl refl refl
+returns-clause-lawful c = keeps_sizes _ c.over.result c.over-2.result c.in_ok-body.ensures c.new.ensures refl refl refl refl
