@@ -9,7 +9,7 @@ use Rattle.std.specs.Cmp.Lexicographic.{slice_cmp, options_total}
 use Rattle.std.specs.List.{AllByRecursion}
 use Rattle.std.proofs.lemmas.Cmp.{nat_cmp_total, nat_list_cmp_total, on_total, then_total, tied_itself, ranked}
 use Rattle.std.proofs.lemmas.List.{take_at}
-use Rattle.lagrange.specs.Nodes.{zeros}
+use Rattle.spaces.specs.Nodes.{zeros}
 use Rattle.dofs.specs.declared.support.Support.{Support}
 use Rattle.dofs.specs.declared.key.Key.{Key}
 use Rattle.dofs.specs.Label.{Label}

@@ -1,7 +1,13 @@
+pub mod Elements
 pub mod KeyLaws
+pub mod Lists
 pub mod LocalLaws
+pub mod LocalNodeLaws
+pub mod NodeLabels
 pub mod NumberingLaws
+pub mod OccurringLabels
 pub mod RowLaws
 pub mod SetLaws
 pub mod SupportLaws
+pub mod Supports
 pub mod TableLaws

@@ -10,8 +10,8 @@ use Rattle.spaces.specs.declared.parts.Part.{Part}
 use Rattle.spaces.specs.Cell.{dimension}
 use Rattle.spaces.specs.Family.{node_count}
 use Rattle.spaces.specs.Scalar.{Scalar, scalar_of}
-use Rattle.lagrange.specs.Nodes.{nodes_of, padded, zeros}
-use Rattle.lagrange.proofs.NodeLaws.{is_node, all_nodes, node_number, node_at, entry_at, padded_sum}
+use Rattle.spaces.specs.Nodes.{nodes_of, padded, zeros}
+use Rattle.spaces.proofs.NodeLaws.{is_node, all_nodes, node_number, node_at, entry_at, padded_sum}
 use Rattle.dofs.specs.declared.key.Key.{Key}
 use Rattle.dofs.specs.Label.{Weighted, put, weighted, node_label, vertices_of, weights_of, cell_in_label}
 use Rattle.dofs.specs.Arrays.{key_of}

@@ -4,13 +4,13 @@ use Rattle.std.specs.List.{AllByRecursion, All, slice_get, Any, Contains}
 use Rattle.std.specs.List.Sorted.{IsStrictlySortedBy}
 use Rattle.std.specs.declared.cmp.Ordering.TheVariants.{Equal}
 use Rattle.spaces.specs.declared.cell.Cell.{Cell}
-use Rattle.spaces.specs.declared.cell.Cell.TheVariants.{Interval, Triangle, Tetrahedron}
 use Rattle.spaces.specs.declared.parts.Part.{Part}
 use Rattle.spaces.specs.declared.parts.Parts.{Parts}
-use Rattle.spaces.specs.Family.{is_cell}
+use Rattle.spaces.specs.Cell.{same_cell}
 use Rattle.spaces.specs.Scalar.{Scalar, scalar_of, repeated, local_size, laid_out}
 use Rattle.spaces.specs.Space.{Space, scalar, vector, tensor, mixed, Spaces, no_spaces, space, scalars, scalars_of, cell_of, first_cell, same_cells, IsLawful, AreLawful}
 use Rattle.spaces.proofs.SpaceLaws.{degree_few}
+use Rattle.spaces.proofs.EqualityLaws.{cell_true}
 use Rattle.spaces.proofs.PartsLaws.{scalars-placed, length-placed}
 use Rattle.mesh_in.specs.MeshData.{MeshData, rows}
 use Rattle.mesh_in.proofs.RowLemmas.{length-rows, row_at, row_inside, whole_rows}
@@ -30,17 +30,6 @@ use Rattle.dofs.proofs.RowLaws.{all_below, all_flat}
 use Rattle.dofs.proofs.TableLaws.{small_occurring, small_rows}
 
 -- ---- the parts of a lawful element
-one_cell : (a b : Cell) → is_cell a b ≡ true → a ≡ b
-one_cell Interval Interval e = refl
-one_cell Interval Triangle e = cc
-one_cell Interval Tetrahedron e = cc
-one_cell Triangle Interval e = cc
-one_cell Triangle Triangle e = refl
-one_cell Triangle Tetrahedron e = cc
-one_cell Tetrahedron Interval e = cc
-one_cell Tetrahedron Triangle e = cc
-one_cell Tetrahedron Tetrahedron e = refl
-
 on-repeated : (c : Cell) (n : ℕ) (ss : List Scalar) → AllByRecursion (IsOn c) ss → AllByRecursion (IsOn c) (repeated n ss)
 on-repeated c zero ss on = tt
 on-repeated c (suc n) ss on = all_append (IsOn c) ss (repeated n ss) on (on-repeated c n ss on)
@@ -55,8 +44,8 @@ mutual
   on_spaces : (c : Cell) (ss : Spaces) → AreLawful ss → same_cells c ss ≡ true → AllByRecursion (IsOn c) (scalars_of ss)
   on_spaces c no_spaces h e = tt
   on_spaces c (space s ss) h e =
-      let both = both_true (is_cell (cell_of s) c) (same_cells c ss) e in
-      all_append (IsOn c) (scalars s) (scalars_of ss) (subst (λ k. AllByRecursion (IsOn k) (scalars s)) (one_cell (cell_of s) c both.0) (on_space s h.0)) (on_spaces c ss h.1 both.1)
+      let both = both_true (same_cell (cell_of s) c) (same_cells c ss) e in
+      all_append (IsOn c) (scalars s) (scalars_of ss) (subst (λ k. AllByRecursion (IsOn k) (scalars s)) (cell_true (cell_of s) c both.0) (on_space s h.0)) (on_spaces c ss h.1 both.1)
 
 pub parts_scalars : (ss : List Scalar) (p : Parts) → p ≡ laid_out ss → map scalar_of p.items ≡ ss
 parts_scalars ss p e = ap (λ (q : Parts). map scalar_of q.items) e ∙ scalars-placed 0 ss

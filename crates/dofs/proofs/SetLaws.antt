@@ -127,6 +127,19 @@ pub all_sorted_set : {K : Type 0} (P : K → Type 0) (R : K → K → Ordering) 
 all_sorted_set P R [] all = tt
 all_sorted_set P R (x ∷ xs) all = all_included P R x (sorted_set R xs) all.0 (all_sorted_set P R xs all.1)
 
+length-included_by : {K : Type 0} (o : Ordering) (x y : K) (ys more : List K) → length more ≤ suc (length ys) → length (included_by o x y ys more) ≤ suc (suc (length ys))
+length-included_by Less x y ys more few = omega arith
+length-included_by Equal x y ys more few = omega arith
+length-included_by Greater x y ys more few = omega (arith, few)
+
+length-included : {K : Type 0} (R : K → K → Ordering) (x : K) (ys : List K) → length (included R x ys) ≤ suc (length ys)
+length-included R x [] = omega arith
+length-included R x (y ∷ ys) = length-included_by (R x y) x y ys (included R x ys) (length-included R x ys)
+
+pub length-sorted_set : {K : Type 0} (R : K → K → Ordering) (xs : List K) → length (sorted_set R xs) ≤ length xs
+length-sorted_set R [] = omega arith
+length-sorted_set R (x ∷ xs) = omega (arith, length-included R x (sorted_set R xs), length-sorted_set R xs)
+
 strict_cons : {K : Type 0} (R : K → K → Ordering) (x : K) (xs : List K) → AllByRecursion (λ y. R x y ≡ Less) xs → IsStrictlySortedBy R xs → IsStrictlySortedBy R (x ∷ xs)
 unfolding IsStrictlySortedBy
 strict_cons R x xs below up = (below, up)

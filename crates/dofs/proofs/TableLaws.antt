@@ -1,15 +1,18 @@
 -- The labels of the cells, one cell after the other
-use Rattle.std.proofs.Common.{◌≡◌, ℕ, zero, suc, ◌+◌, ◌*◌, ◌<◌, ◌≤◌, true, List, [], ◌∷◌, ◌++◌, Some, length, map, drop, refl, sym, ap, ap₂, ◌∙◌, arith, add-one, append_assoc, drop-cons, length-append}
+use Rattle.std.proofs.Common.{◌≡◌, ℕ, zero, suc, ◌+◌, ◌*◌, ◌<◌, ◌≤◌, true, List, [], ◌∷◌, ◌++◌, Some, length, map, drop, refl, sym, ap, ap₂, ◌∙◌, ◌^◌, arith, add-one, append_assoc, drop-cons, length-append}
 use Rattle.std.specs.List.{AllByRecursion, list_all, slice_get}
 use Rattle.std.proofs.lemmas.List.{map-append, length-map}
+use Rattle.std.proofs.lemmas.Nat.{mul-le}
 use Rattle.std.proofs.lemmas.Option.{get_or_from_slice_get}
 use Rattle.spaces.specs.declared.cell.Cell.{Cell}
 use Rattle.spaces.specs.declared.family.Family.{Family}
 use Rattle.spaces.specs.declared.family.Family.TheVariants.{Lagrange, Dg, Real}
-use Rattle.spaces.specs.Scalar.{Scalar, local_size}
-use Rattle.lagrange.specs.Nodes.{nodes_of}
-use Rattle.lagrange.proofs.NodeLaws.{is_node, all_nodes, node_number}
-use Rattle.mesh_in.specs.MeshData.{rows}
+use Rattle.spaces.specs.declared.parts.Part.{Part}
+use Rattle.spaces.specs.Scalar.{Scalar, scalar_of, local_size}
+use Rattle.spaces.proofs.SpaceLaws.{node_count_few}
+use Rattle.spaces.specs.Nodes.{nodes_of}
+use Rattle.spaces.proofs.NodeLaws.{is_node, all_nodes, node_number}
+use Rattle.mesh_in.specs.MeshData.{rows, most}
 use Rattle.mesh_in.proofs.RowLemmas.{rows_push}
 use Rattle.dofs.specs.declared.key.Key.{Key}
 use Rattle.dofs.specs.Label.{weighted, node_label}
@@ -19,7 +22,7 @@ use Rattle.dofs.specs.Parts.{IsOn}
 use Rattle.dofs.specs.Rows.{part_labels, local_labels, labels_from, constant, constants, occurring, rows_of, cell_rows}
 use Rattle.dofs.proofs.SupportLaws.{length-weighted}
 use Rattle.dofs.proofs.LocalLaws.{first_node, node_sum}
-use Rattle.dofs.proofs.SetLaws.{all_append, all_sorted_set}
+use Rattle.dofs.proofs.SetLaws.{all_append, all_sorted_set, length-sorted_set}
 use Rattle.dofs.proofs.KeyLaws.{same_places}
 
 -- ---- arrays of three are enough
@@ -90,6 +93,47 @@ length_local c j (s ∷ ss) k vs on =
       node_number c s.degree on.0.degree,
       on.0.nodes,
       length_local c (suc j) ss k vs on.1,
+    )
+
+-- ---- row numbers of 32 bits are enough
+length-from : (c : Cell) (ss : List Scalar) (k : ℕ) (cells : List (List ℕ)) → AllByRecursion (IsOn c) ss → length (labels_from c ss k cells) ≡ length cells * local_size ss
+length-from c ss k [] on = let none : 0 ≡ 0 * local_size ss = omega arith in none
+length-from c ss k (vs ∷ cells) on =
+    length-append (local_labels c zero ss k vs) (labels_from c ss (suc k) cells)
+    ∙ ap₂ (λ m n. m + n) (length_local c zero ss k vs on) (length-from c ss (suc k) cells on)
+    ∙ next (length cells) (local_size ss)
+  where
+    next : (n w : ℕ) → w + n * w ≡ suc n * w
+    next n w = grind arith
+
+length-constants : (j : ℕ) (ss : List Scalar) → length (constants j ss) ≤ length ss
+length-constants j [] = omega arith
+length-constants j (s ∷ ss) = omega (arith, length-append (constant j s.family) (constants (suc j) ss), length-constants (suc j) ss, one j s.family)
+  where
+    one : (j : ℕ) (f : Family) → length (constant j f) ≤ 1
+    one j Lagrange = omega arith
+    one j Dg = omega arith
+    one j Real = omega arith
+
+few_local : (c : Cell) (ss : List Scalar) → AllByRecursion (IsOn c) ss → local_size ss ≤ 20 * length ss
+few_local c [] on = omega arith
+few_local c (s ∷ ss) on = omega (arith, few_local c ss on.1, on.0.nodes, node_count_few c s.degree on.0.degree)
+
+few_occurring : (c : Cell) (ss : List Scalar) (cells : List (List ℕ)) → AllByRecursion (IsOn c) ss → length ss ≤ 64 → length cells ≤ most → length (occurring c ss cells) < 2 ^ 32
+few_occurring c ss cells on few small =
+    let local : local_size ss ≤ 1280 = omega (arith, few_local c ss on, few) in
+    let product : length cells * local_size ss ≤ 1000000 * 1280 = mul-le (length cells) (local_size ss) 1000000 1280 small local in
+    omega (arith, length-append (constants zero ss) (labels_from c ss zero cells), length-constants zero ss, length-from c ss zero cells on, product, few)
+
+pub few_rows : (c : Cell) (ps : List Part) (cells : List (List ℕ)) (labels : List Key) → AllByRecursion (IsOn c) (map scalar_of ps) → length ps ≤ 64 → length cells ≤ most
+    → labels ≡ map key_of (rows_of c (map scalar_of ps) cells) → length labels < 2 ^ 32
+few_rows c ps cells labels on few small e =
+    omega (
+      arith,
+      ap length e,
+      length-map (rows_of c (map scalar_of ps) cells) key_of,
+      length-sorted_set label_cmp (occurring c (map scalar_of ps) cells),
+      few_occurring c (map scalar_of ps) cells on (omega (arith, length-map ps scalar_of, few)) small,
     )
 
 -- the rows of the cells so far, and those of the cells that are left

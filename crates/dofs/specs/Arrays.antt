@@ -4,7 +4,7 @@ use Rattle.std.specs.declared.cmp.Ordering.{Ordering}
 use Rattle.std.specs.Ordering.{nat_cmp, ordering_then}
 use Rattle.std.specs.Option.{option_cmp}
 use Rattle.std.specs.Cmp.Lexicographic.{slice_cmp}
-use Rattle.lagrange.specs.Nodes.{zeros}
+use Rattle.spaces.specs.Nodes.{zeros}
 use Rattle.dofs.specs.declared.support.Support.{Support}
 use Rattle.dofs.specs.declared.key.Key.{Key}
 use Rattle.dofs.specs.Label.{Label, Weighted, vertices_of, weights_of}

@@ -5,7 +5,7 @@ use Rattle.spaces.specs.declared.family.Family.{Family}
 use Rattle.spaces.specs.declared.family.Family.TheVariants.{Lagrange, Dg, Real}
 use Rattle.spaces.specs.Scalar.{Scalar}
 use Rattle.spaces.specs.Space.{Space, scalars}
-use Rattle.lagrange.specs.Nodes.{nodes_of}
+use Rattle.spaces.specs.Nodes.{nodes_of}
 use Rattle.mesh_in.specs.MeshData.{MeshData}
 use Rattle.dofs.specs.Label.{Label, node_label}
 use Rattle.dofs.specs.Order.{label_cmp, sorted_set, place}
@@ -24,10 +24,13 @@ abbrev pub labels_from : Cell → List Scalar → ℕ → List (List ℕ) → Li
 labels_from kind ss k [] = []
 labels_from kind ss k (vertices ∷ cells) = local_labels kind zero ss k vertices ++ labels_from kind ss (suc k) cells
 
+abbrev pub constant_label : ℕ → Label
+constant_label part = record { part = part; cell = None; vertices = []; weights = [] }
+
 abbrev pub constant : ℕ → Family → List Label
 constant part Lagrange = []
 constant part Dg = []
-constant part Real = record { part = part; cell = None; vertices = []; weights = [] } ∷ []
+constant part Real = constant_label part ∷ []
 
 -- one number for the whole mesh, with or without cells
 abbrev pub constants : ℕ → List Scalar → List Label

@@ -7,6 +7,7 @@
 
 mod dof_map;
 mod key;
+pub mod laws;
 mod local;
 mod numbering;
 mod sorted;

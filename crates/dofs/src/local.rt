@@ -11,8 +11,7 @@ ghost use Rattle.dofs.specs.Rows.{part_labels, local_labels, constants};
 
 use crate::key::Key;
 use crate::support::{Support, node_support};
-use lagrange::weights;
-use spaces::{Cell, Family, Part};
+use spaces::{Cell, Family, Part, weights};
 use std::alloc::AllocError;
 
 /// A cell of a mesh: its kind, number and vertices.

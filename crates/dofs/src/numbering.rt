@@ -30,7 +30,7 @@ fn lawful_parts(alloc: Global, element: &Element) -> Result<Parts, AllocError>
     element.parts(alloc)
 }
 
-/// The labels that occur in order, each once. More than 2^32 - 1 are too many for row numbers.
+/// The labels that occur in order, each once. A mesh has few enough cells for row numbers of 32 bits.
 fn labels_in_order(alloc: Global, mesh: &Mesh, parts: &[Part]) -> Result<Vec<Key>, AllocError>
     requires few { length parts.now ≤ 64 }
     requires degrees { AllByRecursion (IsOn mesh.now.kind) (map scalar_of parts.now) }
@@ -38,17 +38,13 @@ fn labels_in_order(alloc: Global, mesh: &Mesh, parts: &[Part]) -> Result<Vec<Key
     ensures order { IfOk result (λ labels. IsStrictlySortedBy key_cmp labels.items) }
     ensures fit { IfOk result (λ labels. length labels.items < 2 ^ 32) }
 {
-    let labels = sorted(occurring(alloc, mesh, parts)?);
-    if labels.len() > u32::MAX as usize {
-        return Err(AllocError);
-    }
-    Ok(labels)
+    Ok(sorted(occurring(alloc, mesh, parts)?))
 }
 
 /// Numbers the rows of an element on a mesh of its cells. They are the labels of its scalar parts, part after part (a vector by
 /// component, a tensor by row and column, a list by element). The labels of a part are those that occur in some cell, sorted by
 /// cell (of a discontinuous part alone), then by number of vertices, by vertices and by weights; the constant of the whole mesh
-/// is always there. More than 2^32 - 1 rows count as want of memory.
+/// is always there.
 pub fn number(alloc: Global, m: &Mesh, e: &Element) -> Result<DofMap, AllocError>
     requires { m.now.kind ≡ cell_of (space_of e.now) }
     ensures rows { IfOk result (λ d. d ≡ numbering m.now (space_of e.now)) }

@@ -4,7 +4,7 @@ ghost use Rattle.std.specs.Prelude.{◌≡◌, ◌*◌, ◌<◌, ◌≤◌, ◌^
 ghost use Rattle.std.specs.List.{AllByRecursion};
 ghost use Rattle.std.specs.List.Sorted.{IsStrictlySortedBy};
 ghost use Rattle.spaces.specs.Scalar.{scalar_of, local_size};
-ghost use Rattle.mesh_in.specs.MeshData.{rows};
+ghost use Rattle.mesh_in.specs.MeshData.{rows, IsMesh};
 ghost use Rattle.dofs.specs.Arrays.{key_of, key_cmp};
 ghost use Rattle.dofs.specs.Order.{place};
 ghost use Rattle.dofs.specs.Parts.{IsOn};
@@ -21,7 +21,8 @@ use std::alloc::{AllocError, Global};
 pub fn occurring(alloc: Global, mesh: &Mesh, parts: &[Part]) -> Result<Vec<Key>, AllocError>
     requires few { length parts.now ≤ 64 }
     requires degrees { AllByRecursion (IsOn mesh.now.kind) (map scalar_of parts.now) }
-    ensures { IfOk result (λ keys. keys.items ≡ map key_of (occurring mesh.now.kind (map scalar_of parts.now) mesh.now.cells)) }
+    ensures keys { IfOk result (λ keys. keys.items ≡ map key_of (occurring mesh.now.kind (map scalar_of parts.now) mesh.now.cells)) }
+    ensures mesh { IsMesh mesh.now }
 {
     let kind = mesh.kind();
     let mut keys = Vec::new(alloc);

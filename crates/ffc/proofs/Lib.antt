@@ -2,9 +2,9 @@ pub mod SinkLaws
 pub mod MatrixLaws
 pub mod FactorLaws
 pub mod FormLaws
-pub mod HeaderLaws
 pub mod WordsLaws
 pub mod TextLaws
 pub mod LoadLaws
 pub mod AnswerLaws
-pub mod StraightLaws
+pub mod CompleteLaws
+pub mod UnitLaws

@@ -1,9 +1,8 @@
 -- A file of which one byte more than the limit was asked
-use Rattle.std.proofs.Common.{◌≡◌, ℕ, ◌+◌, ◌<◌, ◌≤◌, ◌⊎◌, List, Option, Ok, Err, false, length, take, refl, sym, ◌∙◌, ap, arith, subst, inl, ⊎_elim, min, nat_le}
+use Rattle.std.proofs.Common.{◌≡◌, ℕ, ◌+◌, ◌<◌, ◌≤◌, ◌⊎◌, List, Ok, Err, false, length, take, refl, sym, ◌∙◌, ap, arith, subst, inl, ⊎_elim, min, nat_le}
 use Rattle.std.proofs.lemmas.List.{length-take, take_all}
 use Rattle.std.proofs.lemmas.Bool.{lt-leb}
 use Rattle.algebra.specs.Fraction.{Fraction}
-use Rattle.ends.specs.Held.{Held}
 use Rattle.mesh_in.specs.MeshText.{meaning, longest}
 use Rattle.mesh_in.specs.MeshData.{MeshData}
 use Rattle.mesh_in.specs.Refusal.{out_of_memory, refusal}
@@ -11,9 +10,10 @@ use Rattle.mesh_in.proofs.ReadingLemmas.{long_text}
 use Rattle.mesh_in.specs.declared.refusal.MeshKind.{MeshKind}
 use Rattle.mesh_in.specs.declared.refusal.MeshKind.TheVariants as kind
 use Rattle.mesh_in.specs.declared.refusal.MeshRefusal.{MeshRefusal}
-use Rattle.ffc.specs.Answer.{IsText, MeshFits}
+use Rattle.ffc.specs.Inputs.{Loads, IsText, LoadCause, FormCause, MeshCause}
 use Rattle.ffc.specs.Outcome.{mesh_outcome, outcome_of_kind}
 use Rattle.ffc.specs.declared.outcome.Outcome.{Outcome}
+use Rattle.ffc.specs.declared.outcome.Outcome.TheVariants.{Done, Usage, Form, Mesh, Passed, ReadFault, WriteFault, Memory}
 
 -- the extra byte is there
 pub too_long : (text bytes : List ℕ) (n : ℕ) → take (n + 1) text ≡ bytes → n < length bytes → n < length text
@@ -56,23 +56,45 @@ mesh_whole text bytes m e is =
     apart : (m : MeshData Fraction) (r : MeshRefusal) → Ok m ≡ Err r → ⊥
     apart m r k = cc
 
-by_kind : (content : Option (List Held)) (name text : List ℕ) (r : MeshRefusal) (k : MeshKind) → IsText content name text → meaning text ≡ Err r → MeshFits content name (outcome_of_kind k r)
-by_kind content name text r kind.TooLong t e = (text, t, inl e)
-by_kind content name text r kind.Lex t e = (text, t, inl e)
-by_kind content name text r kind.Syntax t e = (text, t, inl e)
-by_kind content name text r kind.Count t e = (text, t, inl e)
-by_kind content name text r kind.VertexRange t e = (text, t, inl e)
-by_kind content name text r kind.RepeatedVertex t e = (text, t, inl e)
-by_kind content name text r kind.WrongCell t e = (text, t, inl e)
-by_kind content name text r kind.Degenerate t e = (text, t, inl e)
-by_kind content name text r kind.TooManyEntries t e = (text, t, inl e)
-by_kind content name text r kind.Memory t e = tt
+by_kind : (l : Loads) (name text : List ℕ) (r : MeshRefusal) (k : MeshKind) → IsText l.content name text → meaning text ≡ Err r → MeshCause l name (outcome_of_kind k r)
+by_kind l name text r kind.TooLong t e = (text, t, inl e)
+by_kind l name text r kind.Lex t e = (text, t, inl e)
+by_kind l name text r kind.Syntax t e = (text, t, inl e)
+by_kind l name text r kind.Count t e = (text, t, inl e)
+by_kind l name text r kind.VertexRange t e = (text, t, inl e)
+by_kind l name text r kind.RepeatedVertex t e = (text, t, inl e)
+by_kind l name text r kind.WrongCell t e = (text, t, inl e)
+by_kind l name text r kind.Degenerate t e = (text, t, inl e)
+by_kind l name text r kind.TooManyEntries t e = (text, t, inl e)
+by_kind l name text r kind.Memory t e = tt
 
 -- a refusal of the text as the outcome
-pub mesh_fits : (content : Option (List Held)) (name text bytes : List ℕ) (r : MeshRefusal) (o : Outcome) → IsText content name text → meaning bytes ≡ meaning text → (r ≡ out_of_memory) ⊎ (meaning bytes ≡ Err r) → o ≡ mesh_outcome r → MeshFits content name o
-mesh_fits content name text bytes r o t same c e =
-    subst (MeshFits content name) (sym e)
+pub mesh_fits : (l : Loads) (name text bytes : List ℕ) (r : MeshRefusal) (o : Outcome) → IsText l.content name text → meaning bytes ≡ meaning text → (r ≡ out_of_memory) ⊎ (meaning bytes ≡ Err r) → o ≡ mesh_outcome r → MeshCause l name o
+mesh_fits l name text bytes r o t same c e =
+    subst (MeshCause l name) (sym e)
     (⊎_elim
-    (λ (m : r ≡ out_of_memory). subst (λ (s : MeshRefusal). MeshFits content name (mesh_outcome s)) (sym m) tt)
-    (λ (m : meaning bytes ≡ Err r). by_kind content name text r r.kind t (sym same ∙ m))
+    (λ (m : r ≡ out_of_memory). subst (λ (s : MeshRefusal). MeshCause l name (mesh_outcome s)) (sym m) tt)
+    (λ (m : meaning bytes ≡ Err r). by_kind l name text r r.kind t (sym same ∙ m))
     c)
+
+-- ---- a file that was not loaded
+
+pub no_form : (l : Loads) (name : List ℕ) (o : Outcome) → LoadCause l 1 name o → FormCause l name o
+no_form l name (Form r) h = absurd h
+no_form l name Done h = h
+no_form l name Usage h = h
+no_form l name (Mesh r) h = h
+no_form l name (Passed s) h = h
+no_form l name (ReadFault k) h = h
+no_form l name WriteFault h = h
+no_form l name Memory h = h
+
+pub no_mesh : (l : Loads) (name : List ℕ) (o : Outcome) → LoadCause l 2 name o → MeshCause l name o
+no_mesh l name (Mesh r) h = absurd h
+no_mesh l name Done h = h
+no_mesh l name Usage h = h
+no_mesh l name (Form r) h = h
+no_mesh l name (Passed s) h = h
+no_mesh l name (ReadFault k) h = h
+no_mesh l name WriteFault h = h
+no_mesh l name Memory h = h

@@ -6,9 +6,9 @@ pub ok_with : {A B : Type 0} (r : Result A B) (P Q : A → Type 0) (G : Type 0) 
 ok_with (Ok x) P Q G p g f = f x g p
 ok_with (Err e) P Q G p g f = tt
 
-pub on_ok : {A B : Type 0} (r : Result A B) (G H : Type 0) → OnOk r G → (G → H) → OnOk r H
-on_ok (Ok x) G H g f = f g
-on_ok (Err e) G H g f = tt
+pub on_ok_with : {A B : Type 0} (r : Result A B) (P : A → Type 0) (G H : Type 0) → IfOk r P → OnOk r G → ((x : A) → G → P x → H) → OnOk r H
+on_ok_with (Ok x) P G H p g f = f x g p
+on_ok_with (Err e) P G H p g f = tt
 
 pub if_err : {A B : Type 0} (r : Result A B) (P Q : B → Type 0) → IfErr r P → ((e : B) → P e → Q e) → IfErr r Q
 if_err (Ok x) P Q p f = tt

@@ -1,9 +1,11 @@
 pub mod Outcome
 pub mod Words
 pub mod FormFile
-pub mod Header
 pub mod Text
 pub mod Unit
 pub mod Lines
+pub mod Inputs
+pub mod Assemble
+pub mod Compile
 pub mod Answer
 pub mod Command

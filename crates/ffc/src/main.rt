@@ -3,11 +3,12 @@
 //! given; this file hands it those of the system.
 #![tactic(auto)]
 
+mod assemble;
 mod command;
+mod compile;
 mod form_file;
-mod header;
+mod inputs;
 mod lines;
-mod loading;
 mod matrix;
 mod outcome;
 mod output;

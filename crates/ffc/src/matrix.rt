@@ -1,18 +1,17 @@
 //! The matrix of the form `c*u*v*dx`, by the runs of its kernel.
-ghost use Rattle.std.specs.Prelude.{◌≡◌, map, IfOk, IfErr, OnOk};
-ghost use Rattle.std.specs.List.{AllByRecursion};
+ghost use Rattle.std.specs.Prelude.{map, IfOk, IfErr, OnOk};
 ghost use Rattle.ratio.specs.Value.{fraction_of};
 ghost use Rattle.kernel.specs.MassShare.{IsSmallFactor};
-ghost use Rattle.spaces.specs.declared.cell.Cell.TheVariants.{Interval};
-ghost use Rattle.mesh_in.specs.MeshData.{IsMesh, fractions};
+ghost use Rattle.mesh_in.specs.MeshData.{fractions};
 ghost use Rattle.assembly.specs.Kept.{seen};
 ghost use Rattle.form_values.specs.FormValues.{AreTriples};
-ghost use Rattle.form_values.specs.Shares.{IsFine, Refuses};
+ghost use Rattle.form_values.specs.Shares.{HasMatrix, Refuses, IsIntervalMesh};
 ghost use Rattle.c_text.specs.Lawful.{MeetsRules};
 ghost use Rattle.ffc.specs.Unit.{IsMassUnit};
 
 use assembly::{RunRefusal, Triple, assemble_mass};
 use c_unit::CUnit;
+use form_values::laws;
 use kernel::plan_mass;
 use mesh_in::Mesh;
 use ratio::Ratio;
@@ -25,13 +24,14 @@ const FUNCTION_NAME: &[u8] = b"ffc_a";
 /// The values of the form `c*u*v*dx` that are not zero, by row and then by column, for the continuous functions of degree one on intervals.
 pub fn mass_matrix(alloc: Global, c: Ratio, mesh: &Mesh) -> Result<Vec<Triple>, RunRefusal>
     requires factor { IsSmallFactor (fraction_of c) }
-    requires kind { mesh.now.kind ≡ Interval }
-    requires mesh { IsMesh mesh.now }
+    requires mesh { IsIntervalMesh mesh.now }
     ensures triples { IfOk result (λ ts. AreTriples (fractions mesh.now) (fraction_of c) (map seen ts.items)) }
-    ensures fine { OnOk result (AllByRecursion (IsFine (fractions mesh.now) (fraction_of c)) mesh.now.cells) }
+    ensures whole { OnOk result (HasMatrix (fractions mesh.now) (fraction_of c)) }
     ensures refusal { IfErr result (Refuses (fractions mesh.now) (fraction_of c)) }
 {
     let function = plan_mass(alloc, FUNCTION_NAME, c)?;
+    laws::matrix();
+    laws::refusals();
     assemble_mass(alloc, &function, mesh)
 }
 

@@ -23,6 +23,7 @@ a = ";
 
 const TWO: &str = "mesh 1 interval 2 1\n0\n2\n0 1\n";
 
+// The text that docs/KERNEL_TEXT.md shows.
 const UNIT: &str = "#include \"fr.h\"
 enum { ffc_a_X = 2, ffc_a_W = 0, ffc_a_T = 5, ffc_a_A = 4 };
 int ffc_a(const fr *X, const fr *W, fr *A)
@@ -308,6 +309,39 @@ fn form_text(alloc: Global, tail: &str) -> Result<String, AllocError> {
 fn a_number_is_the_factor(rt: HostRuntime) -> Result<(), Fail> {
     for (tail, out, err) in FACTORS {
         let form = form_text(rt.alloc(), tail)?;
+        let call = Call {
+            words: "assemble form a mesh -",
+            form: form.as_str(),
+            mesh: TWO,
+            fail: None,
+        };
+        let left = run(rt.alloc(), &call)?;
+        assert_eq!(rt; left.out.bytes(), out.as_bytes());
+        assert_eq!(rt; left.err.bytes(), err.as_bytes());
+    }
+    Ok(())
+}
+
+// The factor `1.` with so many zeros behind it.
+fn padded_form(alloc: Global, zeros: u32) -> Result<String, AllocError> {
+    let mut text = form_text(alloc, "1.")?;
+    for _ in 0..zeros {
+        text.push('0')?;
+    }
+    text.push_str("*u*v*dx\n")?;
+    Ok(text)
+}
+
+// A form of 262,144 bytes is accepted; one of 262,145, or of many more, is not.
+#[test]
+fn a_form_file_has_a_limit(rt: HostRuntime) -> Result<(), Fail> {
+    let table = [
+        (262_046, MATRIX, ""),
+        (262_047, "", "form line 0 refusal 1 TooLong\n"),
+        (524_288, "", "form line 0 refusal 1 TooLong\n"),
+    ];
+    for (zeros, out, err) in table {
+        let form = padded_form(rt.alloc(), zeros)?;
         let call = Call {
             words: "assemble form a mesh -",
             form: form.as_str(),

@@ -1,28 +1,28 @@
 -- The entries that the cells add have the form's values as their sums
-use Rattle.std.proofs.Common.{◌≡◌, ◌≢◌, ℕ, zero, suc, ◌+◌, ◌<◌, ◌⊎◌, inl, inr, Bool, true, false, ◌||◌, ◌&&◌, refl, sym, ◌∙◌, ap, ap₂, subst, arith, pos, List, [], ◌∷◌, ◌++◌, length, map, Option, None, Some, if◌then◌else◌}
-use Rattle.std.specs.Prelude.{slice_get, slice_index, slice_index_or, ◌==◌}
-use Rattle.std.specs.List.{flat_map, list_any, AllByRecursion}
+use Rattle.std.proofs.Common.{◌≡◌, ◌≢◌, ℕ, ◌<◌, ◌⊎◌, inl, inr, Bool, true, false, ◌||◌, ◌&&◌, refl, sym, ◌∙◌, ap, ap₂, List, [], ◌∷◌, ◌++◌, length, Option, None, Some, if◌then◌else◌}
+use Rattle.std.specs.Prelude.{slice_get, ◌==◌}
+use Rattle.std.specs.List.{flat_map, AllByRecursion}
 use Rattle.std.proofs.Math.Dec.{eqb}
 use Rattle.std.proofs.lemmas.Bool.{eqb-true, eq-eqb}
 use Rattle.std.proofs.lemmas.Bool.Decides.{eqb_tells}
-use Rattle.algebra.specs.Ring.{natural, additive}
+use Rattle.algebra.specs.Ring.{additive}
 use Rattle.algebra.specs.RingLaws as L
-use Rattle.algebra.specs.Fraction.{Fraction, fractions, zero_fraction, one_fraction, add, add_zero, mul, mul_one, mul_comm, inverse, negative, absolute, of_integer, is_zero_fraction}
+use Rattle.algebra.specs.Fraction.{Fraction, fractions, zero_fraction, add, add_zero, mul, absolute, is_zero_fraction}
 use Rattle.algebra.specs.Steps.{sum}
 use Rattle.algebra.specs.Sums.{total}
 use Rattle.algebra.proofs.SumLaws.{total_in-append}
 use Rattle.calculus.specs.Polynomial.{Polynomial, nil, times, constant, polynomials, value}
-use Rattle.calculus.specs.Simplex.{Simplex, volume, point_of}
+use Rattle.calculus.specs.Simplex.{Simplex, volume}
 use Rattle.calculus.specs.Integral.{cell_integral, integral_value}
 use Rattle.calculus.specs.LocalFunction.{local_function}
-use Rattle.calculus.specs.Mass.{third, sixth, end_node, mass_factor, mass_density}
+use Rattle.calculus.specs.Mass.{end_node, mass_factor, mass_density}
 use Rattle.calculus.proofs.PolynomialLaws.{constant-mul, constant-zero, value-constant}
 use Rattle.calculus.proofs.Linear.{cell_integral-scaled}
 use Rattle.calculus.proofs.MassShare.{mass_share}
 use Rattle.mesh_in.specs.MeshData.{MeshData}
-use Rattle.assembly.specs.Rows.{has_vertex, occurs, rows_below, row_of}
-use Rattle.assembly.specs.Sums.{Entry, is_at, values_at, added, added_onto, entry_at}
-use Rattle.form_values.specs.FormValues.{row_vertices, simplex_of, weights_at, basis_function, basis_of, density, value_over, form_value}
+use Rattle.assembly.specs.Rows.{has_vertex, occurs, row_of}
+use Rattle.assembly.specs.Sums.{Entry, is_at, values_at, added, added_onto}
+use Rattle.form_values.specs.FormValues.{row_vertices, simplex_of, weights_at, basis_function, basis_of, density, value_over}
 use Rattle.form_values.proofs.RowLaws.{row_found, row_is}
 
 -- ---- integrals of what is a multiple of the mass density, or nothing

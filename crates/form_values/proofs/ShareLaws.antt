@@ -1,12 +1,12 @@
 -- From the runs of the planned function on the cells to the values of the form
-use Rattle.std.proofs.Common.{◌≡◌, ◌≢◌, ℕ, zero, suc, ◌+◌, ◌<◌, Bool, true, false, not, ◌||◌, ◌&&◌, refl, sym, ◌∙◌, ap, ap₂, subst, arith, List, [], ◌∷◌, ◌++◌, length, map, take, ltb-true, nat_lt, Option, Some, None, if◌then◌else◌}
-use Rattle.std.specs.Prelude.{slice_index, slice_index_or, ◌==◌}
+use Rattle.std.proofs.Common.{◌≡◌, ◌≢◌, ℕ, zero, suc, ◌<◌, Bool, true, false, not, ◌||◌, ◌&&◌, refl, sym, ◌∙◌, ap, ap₂, subst, arith, List, [], ◌∷◌, ◌++◌, length, map, take, ltb-true, nat_lt, Option, Some, None, if◌then◌else◌}
+use Rattle.std.specs.Prelude.{slice_index_or, ◌==◌, IsSome}
 use Rattle.std.specs.List.{list_any, flat_map, AllByRecursion}
 use Rattle.std.proofs.lemmas.List.{length-map}
 use Rattle.std.proofs.Math.Dec.{eqb}
 use Rattle.std.proofs.lemmas.Bool.{eq-eqb}
 use Rattle.algebra.specs.Fraction.{Fraction, zero_fraction, add, negative, absolute, is_zero_fraction}
-use Rattle.algebra.specs.Steps.{sum, difference, fits}
+use Rattle.algebra.specs.Steps.{sum, difference}
 use Rattle.calculus.specs.Polynomial.{times, constant, times_comm}
 use Rattle.calculus.specs.Integral.{integral_value}
 use Rattle.calculus.specs.Simplex.{point_of}
@@ -14,22 +14,23 @@ use Rattle.calculus.specs.Mass.{mass_density}
 use Rattle.c_unit.specs.declared.unit.CFun.{CFun}
 use Rattle.c_unit.specs.Meaning as m
 use Rattle.c_unit.specs.Meaning.{End, ran}
-use Rattle.c_run.specs.Answer.{Answer, answer}
+use Rattle.c_run.specs.Answer.{answer}
 use Rattle.kernel.specs.MassShare.{Outcome, Shares, Passes, Flat, outcome, mass_outcome, mass_shares, mass_share, share_fits, interval}
 use Rattle.kernel.specs.MassShare as M
 use Rattle.c_unit.specs.declared.unit.Op.{Op}
 use Rattle.ratio.specs.declared.reduced.Ratio.{Ratio}
 use Rattle.ratio.specs.Value.{fraction_of}
+use Rattle.spaces.specs.Cell.{dimension}
 use Rattle.mesh_in.specs.MeshData.{MeshData, IsCell, is_distinct, fractions}
 use Rattle.assembly.specs.Rows.{has_vertex, row_of}
-use Rattle.assembly.specs.Sums.{Entry, AreSums, PassesFirst}
+use Rattle.assembly.specs.Sums.{Entry, AreSums, PassesFirst, added, values_at, entry_at}
 use Rattle.assembly.specs.Local.{local_entries}
 use Rattle.assembly.specs.Run as R
 use Rattle.assembly.specs.Run.{coordinates_of, answer_on, tensor_of, is_good, IsGood, StopsAt, StopsFirst, cell_entries, run_entries}
 use Rattle.assembly.specs.declared.refusal.RunRefusal.{RunRefusal}
 use Rattle.assembly.specs.declared.refusal.RunRefusal.TheVariants as refusal
 use Rattle.form_values.specs.FormValues.{AreTriples, form_value, simplex_of}
-use Rattle.form_values.specs.Shares.{end_of, outcome_on, has_shares, IsFine, BecomesFirst, cell_shares, share_entries, Refuses}
+use Rattle.form_values.specs.Shares.{end_of, outcome_on, has_shares, IsFine, BecomesFirst, cell_shares, share_entries, HasMatrix, Refuses, IsPlanned, IsIntervalMesh}
 use Rattle.form_values.proofs.FormValuesLaws.{node_value, cell_sum, AddsIntegrals, all_cells_sum, added_is_total}
 
 -- ---- answers and outcomes
@@ -95,9 +96,6 @@ shares_are c x y h = go (difference y x) refl h
         (parts.0, ap is_zero_fraction (sym (difference_is y x v e)) ∙ parts.1)
 
 -- ---- the function of the form, on a mesh of intervals
-abbrev pub IsPlanned : CFun → Fraction → Type 0
-IsPlanned f c = (x₀ x₁ : Fraction) → outcome (ran f (x₀ ∷ x₁ ∷ []) []) ≡ mass_outcome c x₀ x₁
-
 outcome_at : (f : CFun) (c : Fraction) → IsPlanned f c → (mesh : MeshData Fraction) (a b : ℕ) → OnLine mesh → a < length mesh.points → b < length mesh.points
     → outcome (ran f (coordinates_of mesh (a ∷ b ∷ [])) []) ≡ outcome_on mesh c (a ∷ b ∷ [])
 outcome_at f c planned mesh a b line h k = ap (λ xs. outcome (ran f xs [])) (ends_are mesh a b line h k) ∙ planned _ _
@@ -239,6 +237,31 @@ front_of P xs zero all = tt
 front_of P [] (suc k) all = tt
 front_of P (x ∷ xs) (suc k) all = (all.0, front_of P xs k all.1)
 
+some_is : (o : Option Fraction) (x : Fraction) → o ≡ Some x → IsSome o
+some_is None x e = cc
+some_is (Some y) x e = refl
+
+-- ---- a mesh with a matrix
+fine_no_other : (o p : Outcome) → has_shares o ≡ true → has_shares p ≡ false → o ≡ p → ⊥
+fine_no_other o p h k e = absurd (clash (sym h ∙ ap has_shares e ∙ k))
+  where
+    clash : true ≡ false → ⊥
+    clash x = cc
+
+becomes_none : (m : MeshData Fraction) (c : Fraction) (k : ℕ) (o : Outcome) → AllByRecursion (IsFine m c) m.cells → has_shares o ≡ false → BecomesFirst m c k o → ⊥
+becomes_none m c k o fine h b = fine_no_other (outcome_on m c (slice_index_or m.cells k [])) o (item_of (IsFine m c) m.cells k [] b.0 fine) h b.2
+
+none_is : (o : Option Fraction) → IsSome o → o ≡ None → ⊥
+none_is None h e = cc
+none_is (Some x) h e = cc
+
+-- where there is a matrix, memory alone may be wanting
+pub only_memory : (m : MeshData Fraction) (c : Fraction) (e : RunRefusal) → HasMatrix m c → Refuses m c e → e ≡ refusal.Memory
+only_memory m c (refusal.Zero cell at) h r = absurd (becomes_none m c cell Flat h.cells refl r)
+only_memory m c (refusal.CellPassed cell at op left right) h r = absurd (becomes_none m c cell Passes h.cells refl r)
+only_memory m c (refusal.SumPassed row col) h r = absurd (none_is (added (values_at (share_entries m c) row col)) (h.sums row col) r.1.passes)
+only_memory m c refusal.Memory h r = refl
+
 -- ---- the answers of an assembly by the planned function
 module _ (f : CFun) (c : Fraction) (planned : IsPlanned f c) (mesh : MeshData Fraction) (line : OnLine mesh) (cells : AllByRecursion (IsCell 1 (length mesh.points)) mesh.cells) where
   -- every cell has its shares
@@ -249,6 +272,13 @@ module _ (f : CFun) (c : Fraction) (planned : IsPlanned f c) (mesh : MeshData Fr
   pub sums_are_values : AllByRecursion (IsGood f mesh) mesh.cells → (triples : List Entry) → AreSums (run_entries f mesh) triples → AreTriples mesh c triples
   sums_are_values good triples sums =
       share_triples mesh c line cells triples (subst (λ es. AreSums es triples) (all_add_shares f c planned mesh line mesh.cells cells good) sums)
+
+  -- no cell and no sum passes
+  pub has_matrix : AllByRecursion (IsGood f mesh) mesh.cells → (triples : List Entry) → AreSums (run_entries f mesh) triples → HasMatrix mesh c
+  has_matrix good triples sums = record {
+    cells = all_fine good;
+    sums = λ row col. subst (λ es. IsSome (added (values_at es row col))) (all_add_shares f c planned mesh line mesh.cells cells good) (some_is (added (values_at (run_entries f mesh) row col)) (entry_at triples row col) (sums.exact row col));
+  }
 
   pub sums_pass : AllByRecursion (IsGood f mesh) mesh.cells → (row col : ℕ) → PassesFirst (run_entries f mesh) row col → PassesFirst (share_entries mesh c) row col
   sums_pass good row col h = subst (λ es. PassesFirst es row col) (all_add_shares f c planned mesh line mesh.cells cells good) h
@@ -275,8 +305,12 @@ on_line_at [] v h all = absurd (omega arith)
 on_line_at (p ∷ points) zero h all = length-map p fraction_of ∙ all.0
 on_line_at (p ∷ points) (suc v) h all = on_line_at points v (omega arith) all.1
 
-pub on_line : (m : MeshData Ratio) → AllByRecursion (λ p. length p ≡ 1) m.points → OnLine (fractions m)
-on_line m all v h = on_line_at m.points v (subst (λ n. v < n) (length-map m.points (map fraction_of)) h) all
+pub on_line : (m : MeshData Ratio) → IsIntervalMesh m → OnLine (fractions m)
+on_line m is v h =
+    let all : AllByRecursion (λ (p : List Ratio). length p ≡ 1) m.points = subst (λ (d : ℕ). AllByRecursion (λ (p : List Ratio). length p ≡ d) m.points) (ap dimension is.0) is.1.points in
+    on_line_at m.points v (subst (λ n. v < n) (length-map m.points (map fraction_of)) h) all
 
-pub cells_in : (m : MeshData Ratio) → AllByRecursion (IsCell 1 (length m.points)) m.cells → AllByRecursion (IsCell 1 (length (fractions m).points)) (fractions m).cells
-cells_in m all = subst (λ n. AllByRecursion (IsCell 1 n) m.cells) (sym (length-map m.points (map fraction_of))) all
+pub cells_in : (m : MeshData Ratio) → IsIntervalMesh m → AllByRecursion (IsCell 1 (length (fractions m).points)) (fractions m).cells
+cells_in m is =
+    let all : AllByRecursion (IsCell 1 (length m.points)) m.cells = subst (λ (d : ℕ). AllByRecursion (IsCell d (length m.points)) m.cells) (ap dimension is.0) is.1.cells in
+    subst (λ n. AllByRecursion (IsCell 1 n) m.cells) (sym (length-map m.points (map fraction_of))) all

@@ -3,7 +3,7 @@
 -- A row or column is the place of a vertex among those that occur in some cell, by rising number. Its basis function is on each cell the
 -- local function of that vertex, by Silvester's formula, and 0 on the cells that don't have it. A value is the sum over all cells of the
 -- integral of c times the product of the two basis functions, in physical coordinates.
-use Rattle.std.specs.Prelude.{◌≡◌, ◌≢◌, ℕ, zero, suc, ◌==◌, List, [], ◌∷◌, length, map, slice_get, slice_index_or, Option, None, Some, if◌then◌else◌}
+use Rattle.std.specs.Prelude.{◌≡◌, ◌≢◌, ℕ, ◌==◌, List, [], ◌∷◌, length, map, slice_get, slice_index_or, Option, None, Some, if◌then◌else◌}
 use Rattle.std.specs.List.{AllByRecursion}
 use Rattle.algebra.specs.Fraction.{Fraction, zero_fraction}
 use Rattle.algebra.specs.Sums.{total}

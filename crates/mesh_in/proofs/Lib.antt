@@ -1,6 +1,7 @@
 pub mod FieldLemmas
 pub mod GrammarLaws
 pub mod HeaderLaws
+pub mod HeaderLineLaws
 pub mod HeaderLemmas
 pub mod LineLemmas
 pub mod NumberLemmas

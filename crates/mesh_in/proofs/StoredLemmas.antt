@@ -14,6 +14,8 @@ pub is_mesh : (kind : Cell) (vertices cells : ℕ) (coordinates : List Ratio) (c
 is_mesh kind vertices cells coordinates corners fits = record {
   points = whole_rows (dimension kind) vertices coordinates fits.all_coordinates;
   cells = subst (λ n. AllByRecursion (IsCell (dimension kind) n) (rows (dimension kind + 1) cells corners)) (sym (length-rows (dimension kind) vertices coordinates)) fits.all_cells;
+  few_points = omega (arith, length-rows (dimension kind) vertices coordinates, fits.few_vertices);
+  few_cells = omega (arith, length-rows (dimension kind + 1) cells corners, fits.few_cells);
 }
 
 -- the two lists, and the mesh that they are

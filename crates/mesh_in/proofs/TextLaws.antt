@@ -11,8 +11,8 @@ use Rattle.mesh_in.specs.declared.refusal.MeshKind.{MeshKind}
 use Rattle.mesh_in.specs.declared.refusal.MeshKind.TheVariants.{TooLong, Syntax, Count}
 use Rattle.mesh_in.specs.declared.refusal.MeshRefusal.{MeshRefusal}
 use Rattle.mesh_in.specs.Line.{content, has_plain_bytes, words}
-use Rattle.mesh_in.specs.MeshData.{MeshData, fractions}
-use Rattle.mesh_in.specs.MeshText.{Said, nothing, begun, header_of, after_header, after_row, after_words, after_line, at_line, complete, reading, meaning, most, longest, IsOpen}
+use Rattle.mesh_in.specs.MeshData.{MeshData, fractions, most}
+use Rattle.mesh_in.specs.MeshText.{Said, nothing, begun, header_of, after_header, after_row, after_words, after_line, at_line, complete, reading, meaning, longest, IsOpen}
 use Rattle.mesh_in.specs.MeshGrammar.{word_lines, IsHeader, Opens, Says, header_for, IsMeshText, HasBadLine, LacksLines, IsRefused}
 use Rattle.mesh_in.specs.Refusal.{refusal, out_of_memory}
 use Rattle.mesh_in.specs.Reader.{Gives}

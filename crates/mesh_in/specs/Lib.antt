@@ -1,3 +1,4 @@
+pub mod HeaderLine
 pub mod Line
 pub mod MeshData
 pub mod MeshGrammar

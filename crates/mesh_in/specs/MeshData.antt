@@ -1,5 +1,5 @@
 -- What a mesh is: its points, and its cells as lists of vertex numbers
-use Rattle.std.specs.Prelude.{◌≡◌, ℕ, zero, suc, ◌+◌, ◌==◌, ◌&&◌, Bool, true, not, nat_lt, List, [], ◌∷◌, length, map, take, drop}
+use Rattle.std.specs.Prelude.{◌≡◌, ℕ, zero, suc, ◌+◌, ◌≤◌, ◌==◌, ◌&&◌, Bool, true, not, nat_lt, List, [], ◌∷◌, length, map, take, drop}
 use Rattle.std.specs.List.{list_any, list_all, AllByRecursion}
 use Rattle.algebra.specs.Fraction.{Fraction}
 use Rattle.ratio.specs.declared.reduced.Ratio.{Ratio}
@@ -33,10 +33,16 @@ pub record IsCell (d count : ℕ) (vertices : List ℕ) : Type 0 where
   pub in_range : are_below count vertices ≡ true
   pub distinct : is_distinct vertices ≡ true
 
--- each point has its coordinates, and each cell its vertices
+-- the most points, and the most cells
+abbrev pub most : ℕ
+most = 1000000
+
+-- each point has its coordinates, and each cell its vertices; there are not too many of either
 pub record IsMesh {A : Type 0} (m : MeshData A) : Type 0 where
   pub points : AllByRecursion (λ p. length p ≡ dimension m.kind) m.points
   pub cells : AllByRecursion (IsCell (dimension m.kind) (length m.points)) m.cells
+  pub few_points : length m.points ≤ most
+  pub few_cells : length m.cells ≤ most
 
 -- the first count rows of width numbers each
 unfoldable pub rows : {A : Type 0} → ℕ → ℕ → List A → List (List A)

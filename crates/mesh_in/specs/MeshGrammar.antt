@@ -11,8 +11,8 @@ use Rattle.mesh_in.specs.declared.refusal.MeshKind.TheVariants.{TooLong, Syntax}
 use Rattle.mesh_in.specs.declared.refusal.MeshRefusal.{MeshRefusal}
 use Rattle.mesh_in.specs.Line.{content, has_plain_bytes, is_some_word, words}
 use Rattle.mesh_in.specs.Number.{number_of}
-use Rattle.mesh_in.specs.MeshData.{MeshData, IsCell}
-use Rattle.mesh_in.specs.MeshText.{Said, nothing, begun, most, longest, after_line, IsOpen}
+use Rattle.mesh_in.specs.MeshData.{MeshData, IsCell, most}
+use Rattle.mesh_in.specs.MeshText.{Said, nothing, begun, longest, after_line, IsOpen}
 use Rattle.mesh_in.specs.Refusal.{refusal}
 
 -- the words of each line that has any

@@ -15,7 +15,7 @@ use Rattle.mesh_in.specs.Refusal.{refusal}
 use Rattle.mesh_in.specs.Line.{content, has_plain_bytes, words}
 use Rattle.mesh_in.specs.Number.{number_of}
 use Rattle.mesh_in.specs.NumberReading.{coordinate_of}
-use Rattle.mesh_in.specs.MeshData.{MeshData, is_distinct, are_below}
+use Rattle.mesh_in.specs.MeshData.{MeshData, is_distinct, are_below, most}
 
 -- ---- the words of one line
 
@@ -65,9 +65,6 @@ header_of ws = do
 pub data Said : Type 0 where
   nothing : Said
   begun : Header → List (List Fraction) → List (List ℕ) → Said
-
-abbrev pub most : ℕ
-most = 1000000
 
 abbrev pub after_header : Option Header → Result Said MeshKind
 after_header None = Err Syntax

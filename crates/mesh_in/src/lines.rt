@@ -1,8 +1,9 @@
 //! The lines of a text that have words.
 
-ghost use Rattle.std.specs.Prelude.{◌≡◌, ◌==◌, ◌∷◌, ◌+◌, ◌<◌, ◌≤◌, ℕ, List, length, IfOk, IfErr, OnOk, IsTrue, Err};
+ghost use Rattle.std.specs.Prelude.{◌≡◌, ◌==◌, ◌∷◌, ◌+◌, ◌<◌, ◌≤◌, ◌^◌, ℕ, List, length, IfOk, IfErr, OnOk, IsTrue, Err};
 ghost use Rattle.std.specs.List.{position_or_len, list_all};
 ghost use Rattle.std.specs.Str.Lines.{lines, strip_carriage_return};
+ghost use Rattle.mesh_in.specs.HeaderLine.{header_line};
 ghost use Rattle.mesh_in.specs.Line.{is_plain, content};
 ghost use Rattle.mesh_in.specs.Refusal.{refusal};
 ghost use Rattle.mesh_in.specs.MeshText.{longest};
@@ -71,6 +72,24 @@ fn without_comment(line: &[u8]) -> &[u8]
 {
     let (text, _) = line.split_at(place_of(line, b'#'));
     text
+}
+
+/// The number, from 1, of the first line that has words: in the text of a mesh that is its header. No line behind it is read.
+pub fn header_line(text: &[u8]) -> u32
+    requires { length text.now + 1 < 2 ^ 32 }
+    ensures { result ≡ header_line text.now }
+{
+    let mut rest = text;
+    let mut number = 1;
+    'lines: while !rest.is_empty() {
+        let (line, after) = split_line(rest);
+        if has_words(without_comment(line)) {
+            return number;
+        }
+        number += 1;
+        rest = after;
+    }
+    number
 }
 
 fn is_plain(byte: u8) -> bool

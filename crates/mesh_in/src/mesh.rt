@@ -48,7 +48,7 @@ pub struct CellView<'a> {
 
 impl Mesh {
     /// Of what a text said.
-    pub fn new(header: Header, coordinates: Vec<Ratio>, corners: Vec<u32>) -> Mesh
+    pub(crate) fn new(header: Header, coordinates: Vec<Ratio>, corners: Vec<u32>) -> Mesh
         requires { IsStored header.kind header.vertices header.cells coordinates.items corners.items }
         ensures { result ≡ stored header.kind header.vertices header.cells coordinates.items corners.items }
     {

@@ -6,7 +6,7 @@ ghost use Rattle.std.specs.Str.Lines.{lines};
 ghost use Rattle.algebra.specs.Fraction.{Fraction};
 ghost use Rattle.spaces.specs.Cell.{dimension};
 ghost use Rattle.mesh_in.specs.Line.{words};
-ghost use Rattle.mesh_in.specs.MeshData.{MeshData, IsCell, fractions, rows};
+ghost use Rattle.mesh_in.specs.MeshData.{MeshData, IsCell, fractions, rows, most};
 ghost use Rattle.mesh_in.specs.MeshGrammar.{IsMeshText, IsRefused};
 ghost use Rattle.mesh_in.specs.MeshText.{longest, nothing, begun, header_of, after_header, reading, meaning};
 ghost use Rattle.mesh_in.specs.Refusal.{out_of_memory};
@@ -27,6 +27,7 @@ const LONGEST: usize = 67_108_864;
 const MOST: u32 = 1_000_000;
 
 fn first_row(line: Line<'_>) -> Result<Header, MeshRefusal>
+    ensures few { IfOk result (λ header. (header.vertices ≤ most) × (header.cells ≤ most)) }
     ensures ok { IfOk result (λ header. after_header (header_of (words line.entry.text.now)) ≡ Ok (begun header [] [])) }
     ensures err { IfErr result (λ e. IsRefusedBy e line.entry.number (after_header (header_of (words line.entry.text.now)))) }
 {

@@ -1,0 +1,85 @@
+-- The form and the mesh that the files hold, and why there is none
+use Rattle.std.specs.Prelude.{◌≡◌, ◌≢◌, ◌⊎◌, ◌<◌, ◌≤◌, ℕ, List, Option, Some, None, Ok, Err, length}
+use Rattle.algebra.specs.Fraction.{Fraction}
+use Rattle.ends.specs.Count.{Rises}
+use Rattle.ends.specs.Held.{Held, bytes_of}
+use Rattle.spaces.specs.declared.cell.Cell.TheVariants.{Interval}
+use Rattle.mesh_in.specs.MeshData.{MeshData}
+use Rattle.mesh_in.specs.MeshText.{meaning}
+use Rattle.mesh_in.specs.declared.refusal.MeshKind.TheVariants as mesh
+use Rattle.mesh_in.specs.declared.refusal.MeshRefusal.{MeshRefusal}
+use Rattle.ffc.specs.FormFile.{IsForm, IsNoForm, IsOff}
+use Rattle.mesh_in.specs.HeaderLine.{header_line}
+use Rattle.ffc.specs.declared.outcome.FormKind.{FormKind}
+use Rattle.ffc.specs.declared.outcome.FormKind.TheVariants as form
+use Rattle.ffc.specs.declared.outcome.Outcome.{Outcome}
+use Rattle.ffc.specs.declared.outcome.Outcome.TheVariants.{Form, Mesh, ReadFault, Memory}
+
+-- ---- files
+
+-- how loads go: what the files hold, how often a load failed before and after them, and the name of the last one that failed
+pub record Loads : Type 0 where
+  pub content : Option (List Held)
+  pub before : ℕ
+  pub now : ℕ
+  pub failed : List ℕ
+
+abbrev pub loads : Option (List Held) → ℕ → ℕ → List ℕ → Loads
+loads content before now failed = record { content = content; before = before; now = now; failed = failed }
+
+-- the text of the file with this name; where nothing is told, any text may be
+abbrev pub IsText : Option (List Held) → List ℕ → List ℕ → Type 0
+IsText None name text = Unit {0}
+IsText (Some files) name text = bytes_of files name ≡ Some text
+
+-- why the file with this number was not loaded: there was a fault, and its name is the last failed one; or memory was wanting
+abbrev pub LoadCause : Loads → ℕ → List ℕ → Outcome → Type 0
+LoadCause l file name (ReadFault k) = (k ≡ file) × Rises l.before l.now × (l.failed ≡ name)
+LoadCause l file name Memory = Unit {0}
+LoadCause l file name _ = ⊥
+
+-- ---- the form: file 1
+
+abbrev pub form_limit : ℕ
+form_limit = 262144
+
+-- a form that can be compiled, with this factor, in a file that isn't too long
+pub record IsFormFile (text : List ℕ) (c : Fraction) : Type 0 where
+  pub short : length text ≤ form_limit
+  pub states : IsForm text c
+
+-- the file with this name is such a form, with this factor and no other
+abbrev pub HasForm : Option (List Held) → List ℕ → Fraction → Type 0
+HasForm content name c = (text : List ℕ) × IsText content name text × IsFormFile text c × ((d : Fraction) → IsForm text d → c ≡ d)
+
+-- when a form is refused: it is too long, or else no form that can be compiled, and this line isn't as it is required
+abbrev pub FormRefuses : FormKind → ℕ → List ℕ → Type 0
+FormRefuses form.TooLong line text = (form_limit < length text) × (line ≡ 0)
+FormRefuses form.NotYet line text = (length text ≤ form_limit) × IsNoForm text × IsOff line text
+
+-- why there is no form
+abbrev pub FormCause : Loads → List ℕ → Outcome → Type 0
+FormCause l name (Form r) = (text : List ℕ) × IsText l.content name text × FormRefuses r.kind r.line text
+FormCause l name o = LoadCause l 1 name o
+
+-- ---- the mesh: file 2
+
+-- the text stands for a mesh of intervals
+abbrev pub IsIntervals : List ℕ → MeshData Fraction → Type 0
+IsIntervals text m = (meaning text ≡ Ok m) × (m.kind ≡ Interval)
+
+abbrev pub HasMesh : Option (List Held) → List ℕ → MeshData Fraction → Type 0
+HasMesh content name m = (text : List ℕ) × IsText content name text × IsIntervals text m
+
+-- the text stands for a mesh of other cells, and this is the line of its header
+abbrev pub IsWrongCell : List ℕ → MeshRefusal → Type 0
+IsWrongCell text r = (m : MeshData Fraction) × (meaning text ≡ Ok m) × (m.kind ≢ Interval) × (r.kind ≡ mesh.WrongCell) × (r.line ≡ header_line text)
+
+-- when a mesh is refused: by its text, or for its cells
+abbrev pub MeshRefuses : MeshRefusal → List ℕ → Type 0
+MeshRefuses r text = (meaning text ≡ Err r) ⊎ IsWrongCell text r
+
+-- why there is no mesh
+abbrev pub MeshCause : Loads → List ℕ → Outcome → Type 0
+MeshCause l name (Mesh r) = (text : List ℕ) × IsText l.content name text × MeshRefuses r text
+MeshCause l name o = LoadCause l 2 name o

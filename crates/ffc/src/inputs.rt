@@ -1,0 +1,90 @@
+//! The form and the mesh that a command names.
+ghost use Rattle.std.specs.Prelude.{◌≡◌, ◌+◌, ◌<◌, ◌^◌, ℕ, List, take, OnOk, IfOk, IfErr};
+ghost use Rattle.ratio.specs.Value.{fraction_of};
+ghost use Rattle.kernel.specs.MassShare.{IsSmallFactor};
+ghost use Rattle.mesh_in.specs.MeshData.{fractions};
+ghost use Rattle.form_values.specs.Shares.{IsIntervalMesh};
+ghost use Rattle.ffc.specs.Inputs.{loads, IsText, LoadCause, HasForm, FormCause, HasMesh, MeshCause};
+
+use crate::form_file::read_form;
+use crate::outcome::{FormKind, FormRefusal, Outcome};
+use ends::files::{Files, LoadError};
+use mesh_in::{Mesh, MeshKind, MeshRefusal, header_line, read_mesh};
+use ratio::Ratio;
+use spaces::Cell;
+use std::alloc::Global;
+
+/// The most bytes of a form file.
+const FORM_LIMIT: u32 = 262_144;
+
+/// The most bytes of a mesh file.
+const MESH_LIMIT: u32 = 67_108_864;
+
+// The bytes of a file, with one more than the limit at most: that one says that it is too long.
+fn load<F: Files>(
+    alloc: Global,
+    files: &mut F,
+    name: &str,
+    limit: u32,
+    file: u8,
+) -> Result<Vec<u8>, Outcome>
+    requires { limit + 1 < 2 ^ 32 }
+    ensures ok { IfOk result (λ bytes. (text : List ℕ) × IsText (F.content files.old) name.now text
+        × (take (limit + 1) text ≡ bytes.items)) }
+    ensures content { F.content files.new ≡ F.content files.old }
+    ensures no_fault { OnOk result (F.faults files.new ≡ F.faults files.old) }
+    ensures cause { IfErr result (LoadCause (loads (F.content files.old) (F.faults files.old)
+        (F.faults files.new) (F.last_failed files.new)) file name.now) }
+{
+    let mut bytes = Vec::new(alloc);
+    match files.load(name, limit + 1, &mut bytes) {
+        Ok(()) => Ok(bytes),
+        Err(LoadError::Fault) => Err(Outcome::ReadFault(file)),
+        Err(LoadError::Memory) => Err(Outcome::Memory),
+    }
+}
+
+/// Loads a form that can be compiled, and gives its factor.
+pub fn load_form<F: Files>(alloc: Global, files: &mut F, name: &str) -> Result<Ratio, Outcome>
+    ensures form { IfOk result (λ c. HasForm (F.content files.old) name.now (fraction_of c)) }
+    ensures small { IfOk result (λ c. IsSmallFactor (fraction_of c)) }
+    ensures content { F.content files.new ≡ F.content files.old }
+    ensures no_fault { OnOk result (F.faults files.new ≡ F.faults files.old) }
+    ensures cause { IfErr result (FormCause (loads (F.content files.old) (F.faults files.old)
+        (F.faults files.new) (F.last_failed files.new)) name.now) }
+{
+    let text = load(alloc, files, name, FORM_LIMIT, 1)?;
+    if text.len() > FORM_LIMIT as usize {
+        let kind = FormKind::TooLong;
+        return Err(Outcome::Form(FormRefusal { kind, line: 0 }));
+    }
+    match read_form(text.as_slice()) {
+        Ok(factor) => Ok(factor),
+        Err(line) => {
+            let kind = FormKind::NotYet;
+            Err(Outcome::Form(FormRefusal { kind, line }))
+        }
+    }
+}
+
+/// Loads a mesh of intervals.
+pub fn load_mesh<F: Files>(alloc: Global, files: &mut F, name: &str) -> Result<Mesh, Outcome>
+    ensures mesh { IfOk result (λ mesh. HasMesh (F.content files.old) name.now (fractions mesh)) }
+    ensures intervals { IfOk result IsIntervalMesh }
+    ensures cause { IfErr result (MeshCause (loads (F.content files.old) (F.faults files.old)
+        (F.faults files.new) (F.last_failed files.new)) name.now) }
+{
+    let text = load(alloc, files, name, MESH_LIMIT, 2)?;
+    let mesh = match read_mesh(alloc, text.as_slice()) {
+        Ok(mesh) => mesh,
+        Err(refusal) => return Err(Outcome::from(refusal)),
+    };
+    match mesh.kind() {
+        Cell::Interval => Ok(mesh),
+        _ => Err(Outcome::Mesh(MeshRefusal {
+            kind: MeshKind::WrongCell,
+            line: header_line(text.as_slice()),
+            cell: 0,
+        })),
+    }
+}
