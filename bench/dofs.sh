@@ -7,7 +7,7 @@ copy=$(mktemp -d)
 trap 'rm -rf "$copy"' EXIT
 mkdir "$copy"/crates
 cp HANDLES "$copy"
-for crate in algebra ratio calculus spaces polyalg lagrange mesh_in dofs; do
+for crate in algebra ratio calculus spaces mesh_in dofs; do
     cp -r crates/$crate "$copy"/crates
     grep "^$crate:" crates.txt >> "$copy"/crates.txt
 done
@@ -17,7 +17,7 @@ rm -rf crates/dofs_race/proofs crates/dofs_race/specs crates/dofs_race/stdin cra
 rm -f crates/dofs_race/src/*
 mkdir -p crates/dofs_race/proofs crates/dofs_race/specs
 touch crates/dofs_race/proofs/Lib.antt crates/dofs_race/specs/Lib.antt
-echo 'dofs_race: algebra calculus ratio sqlite_items spaces polyalg lagrange mesh_in dofs' >> crates.txt
+echo 'dofs_race: algebra calculus ratio sqlite_items spaces mesh_in dofs' >> crates.txt
 cat > crates/dofs_race/src/main.rt <<'EOR'
 //! Milliseconds to number an element of degree 3 on a ring of cells.
 #![tactic(auto)]

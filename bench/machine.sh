@@ -1,6 +1,7 @@
 #!/bin/sh
 # Times the machine on a straight-line kernel and on a loop kernel over many cells, beside the same steps called directly,
-# and prints nanoseconds a statement and the ratio to the direct call. Run it at the top of the repository: sh bench/machine.sh
+# on random fractions in lowest terms of 8 to 62 bits, and prints nanoseconds a statement and the ratio to the direct call.
+# It fails where a run fails. Run it at the top of the repository: sh bench/machine.sh
 # It works on a copy, since a program that only prints times is no part of the gate.
 set -e
 copy=$(mktemp -d)
@@ -93,11 +94,42 @@ fn looped(alloc: Global, copies: bool) -> Result<CFun, AllocError> {
     Ok(function(alloc, body))
 }
 
-fn filled(alloc: Global, n: i128, d: i128) -> Result<Vec<Ratio>, AllocError> {
+// A generator of Marsaglia's: xorshift with shifts by 13, 7 and 17.
+fn next(state: u64) -> u64 {
+    let first = state ^ (state << 13);
+    let second = first ^ (first >> 7);
+    second ^ (second << 17)
+}
+
+fn signed(n: u64) -> i128 {
+    n as i128
+}
+
+// The last `bits` bits of the state, of which the first is set.
+fn part(state: u64, bits: u32) -> i128 {
+    if bits == 0 || bits > 62 {
+        return 1;
+    }
+    let top = 1u64 << (bits - 1);
+    signed((state & (top - 1)) | top)
+}
+
+// 64 random fractions whose numerators and denominators in lowest terms have this many bits.
+fn random_fractions(alloc: Global, bits: u32, seed: u64) -> Result<Vec<Ratio>, AllocError> {
     let mut all = Vec::new(alloc);
-    for _ in 0..64u32 {
+    let mut state = seed;
+    for _ in 0..100000u32 {
+        if all.len() >= 64 {
+            return Ok(all);
+        }
+        state = next(state);
+        let n = part(state, bits);
+        state = next(state);
+        let d = part(state, bits);
         if let Some(r) = Ratio::new(n, d) {
-            all.push(r)?;
+            if r.num() == n && r.den() == d {
+                all.push(r)?;
+            }
         }
     }
     Ok(all)
@@ -119,7 +151,14 @@ fn products(x: &[Ratio], w: &[Ratio], t: &mut [Ratio], cells: u32) {
     }
 }
 
-fn all_cells(rt: &HostRuntime, f: &CFun, x: &[Ratio], w: &[Ratio], cells: u32) -> io::Result<u128> {
+// Nanoseconds for all cells; nothing where a run failed.
+fn all_cells(
+    rt: &HostRuntime,
+    f: &CFun,
+    x: &[Ratio],
+    w: &[Ratio],
+    cells: u32,
+) -> io::Result<Option<u128>> {
     let mut m = Machine::new(rt.alloc(), f)?;
     let zero = Ratio::zero();
     let mut a = vec![in rt.alloc(); zero; f.a as usize]?;
@@ -131,43 +170,79 @@ fn all_cells(rt: &HostRuntime, f: &CFun, x: &[Ratio], w: &[Ratio], cells: u32) -
         }
     }
     let ns = start.elapsed(rt)?.as_nanos();
-    Ok(if good == cells { ns } else { 0 })
+    Ok(if good == cells { Some(ns) } else { None })
 }
 
-fn race(rt: &HostRuntime, n: i128, d: i128, cells: u32) -> io::Result<()> {
-    let x = filled(rt.alloc(), n, d)?;
-    let w = filled(rt.alloc(), d, n)?;
-    let mut t = filled(rt.alloc(), 1, 1)?;
-    let mut best = [u128::MAX; 5];
+// The best of five times; nothing where a run failed.
+fn best_of(
+    rt: &HostRuntime,
+    f: &CFun,
+    x: &[Ratio],
+    w: &[Ratio],
+    cells: u32,
+) -> io::Result<Option<u128>> {
+    let mut best = u128::MAX;
+    for _ in 0..5u32 {
+        match all_cells(rt, f, x, w, cells)? {
+            Some(ns) => best = best.min(ns),
+            None => return Ok(None),
+        }
+    }
+    Ok(Some(best))
+}
+
+fn direct(rt: &HostRuntime, x: &[Ratio], w: &[Ratio], cells: u32) -> io::Result<u128> {
+    let mut t = vec![in rt.alloc(); Ratio::zero(); 64]?;
+    let mut best = u128::MAX;
     for _ in 0..5u32 {
         let start = Instant::now(rt)?;
-        products(x.as_slice(), w.as_slice(), t.as_mut_slice(), cells);
-        best[0] = best[0].min(start.elapsed(rt)?.as_nanos());
-        let f = straight(rt.alloc(), false)?;
-        best[1] = best[1].min(all_cells(rt, &f, x.as_slice(), w.as_slice(), cells)?);
-        let f = looped(rt.alloc(), false)?;
-        best[2] = best[2].min(all_cells(rt, &f, x.as_slice(), w.as_slice(), cells)?);
-        let f = straight(rt.alloc(), true)?;
-        best[3] = best[3].min(all_cells(rt, &f, x.as_slice(), w.as_slice(), cells)?);
-        let f = looped(rt.alloc(), true)?;
-        best[4] = best[4].min(all_cells(rt, &f, x.as_slice(), w.as_slice(), cells)?);
+        products(x, w, t.as_mut_slice(), cells);
+        best = best.min(start.elapsed(rt)?.as_nanos());
     }
+    Ok(best)
+}
+
+fn report(
+    rt: &HostRuntime,
+    what: &str,
+    best: Option<u128>,
+    direct: u128,
+    cells: u32,
+) -> io::Result<()> {
     let statements = cells as u128 * 64 + 1;
-    let direct = best[0].wrapping_mul(10) / statements;
-    let straight = best[1].wrapping_mul(10) / statements;
-    let looped = best[2].wrapping_mul(10) / statements;
-    let straight_copy = best[3].wrapping_mul(10) / statements;
-    let looped_copy = best[4].wrapping_mul(10) / statements;
-    let first = best[1].wrapping_mul(100) / best[0].max(1);
-    let second = best[2].wrapping_mul(100) / best[0].max(1);
-    println!(rt; "{n}/{d}, tenths of ns a statement: direct {direct}; product straight {straight}, loop {looped}; copy straight {straight_copy}, loop {looped_copy}")?;
-    println!(rt; "  percent of the direct call: straight {first}, loop {second}")
+    match best {
+        None => println!(rt; "  {what}: a run failed"),
+        Some(ns) => {
+            let each = ns.wrapping_mul(10) / statements;
+            let percent = ns.wrapping_mul(100) / direct.max(1);
+            println!(rt; "  {what}: {each} tenths of ns a statement, {percent} percent of the direct call")
+        }
+    }
+}
+
+fn race(rt: &HostRuntime, bits: u32, cells: u32) -> io::Result<()> {
+    let x = random_fractions(rt.alloc(), bits, 0x9e37_79b9_7f4a_7c15)?;
+    let w = random_fractions(rt.alloc(), bits, 0xd1b5_4a32_d192_ed03)?;
+    let (x, w) = (x.as_slice(), w.as_slice());
+    let called = direct(rt, x, w, cells)?;
+    let each = called.wrapping_mul(10) / (cells as u128 * 64 + 1);
+    println!(rt; "{bits} bits, direct call: {each} tenths of ns a statement")?;
+    let product = straight(rt.alloc(), false)?;
+    report(rt, "product, straight", best_of(rt, &product, x, w, cells)?, called, cells)?;
+    let product = looped(rt.alloc(), false)?;
+    report(rt, "product, loop", best_of(rt, &product, x, w, cells)?, called, cells)?;
+    let copy = straight(rt.alloc(), true)?;
+    report(rt, "copy, straight", best_of(rt, &copy, x, w, cells)?, called, cells)?;
+    let copy = looped(rt.alloc(), true)?;
+    report(rt, "copy, loop", best_of(rt, &copy, x, w, cells)?, called, cells)
 }
 
 fn main(rt: HostRuntime) -> io::Result<()> {
-    race(&rt, 3, 5, 20000)?;
-    race(&rt, 201, 173, 10000)?;
-    race(&rt, 1000000007, 998244353, 5000)
+    race(&rt, 8, 10000)?;
+    race(&rt, 16, 10000)?;
+    race(&rt, 31, 5000)?;
+    race(&rt, 48, 5000)?;
+    race(&rt, 62, 5000)
 }
 EOR
 mkdir crates/machine_race/proofs/all_cells
@@ -180,4 +255,5 @@ invariant-loop l = length l.a.items ≡ l.m.a
 EOR
 cd crates/machine_race
 rt run > run.log 2>&1 || { cat run.log; exit 1; }
-grep -E 'statement|percent' run.log
+grep -E 'a statement|a run failed' run.log
+! grep -q 'a run failed' run.log
