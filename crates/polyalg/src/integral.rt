@@ -6,9 +6,8 @@ ghost use Rattle.calculus.specs.LocalFunction.{factorial};
 ghost use Rattle.calculus.specs.Polynomial.{constant};
 ghost use Rattle.calculus.specs.Simplex.{reference};
 ghost use Rattle.calculus.specs.Integral.{shadow_integral};
-ghost use Rattle.polyalg.specs.Exponents.{total};
-ghost use Rattle.polyalg.specs.Terms.{value_of};
-ghost use Rattle.polyalg.specs.ReferenceIntegral.{raised, factor_of, integral_steps, VariablesBelow, by_factorials};
+ghost use Rattle.polyalg.specs.Prelude.{total, value_of, VariablesBelow};
+ghost use Rattle.polyalg.specs.ReferenceIntegral.{raised, factor_of, integral_steps, by_factorials};
 
 use crate::poly::Poly;
 use crate::terms::quotient;
@@ -50,12 +49,13 @@ fn factor(e: [u32; 3], d: u8) -> Option<Ratio>
     raised(second, below + x + y, z)
 }
 
-fn factorial(d: u8) -> u32
-    requires { d ≤ 3 }
-    ensures value { result ≡ factorial d }
+/// `n!`, for n up to 3.
+pub fn factorial(n: u8) -> u32
+    requires { n ≤ 3 }
+    ensures value { result ≡ factorial n }
     ensures positive { 0 < result }
 {
-    match d {
+    match n {
         0 | 1 => 1,
         2 => 2,
         _ => 6,

@@ -4,9 +4,7 @@ ghost use Rattle.std.specs.Prelude.{◌≡◌, ◌<◌, OnOk};
 ghost use Rattle.ratio.specs.Value.{fraction_of};
 ghost use Rattle.algebra.specs.Ring.{natural};
 ghost use Rattle.algebra.specs.Fraction.{fractions};
-ghost use Rattle.polyalg.specs.Exponents.{key};
-ghost use Rattle.polyalg.specs.Small.{over};
-ghost use Rattle.polyalg.specs.Terms.{kept};
+ghost use Rattle.polyalg.specs.Prelude.{key, over, kept};
 
 use crate::term::Term;
 use ratio::Ratio;

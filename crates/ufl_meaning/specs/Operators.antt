@@ -125,8 +125,3 @@ two_value Dot s t f g b = dot_value s f g b
 two_value Inner s t f g b = sum_components s (λ c. times (f c) (g c))
 two_value Outer s t f g b = times (f (front s b)) (g (back s b))
 two_value Cross s t f g b = cross_value f g b
-
--- the indices that an operator sums: in a product those of both operands
-abbrev pub summed : Op2 → List Free → List Free → List Free
-summed Product xs ys = repeated (xs ++ ys)
-summed _ xs ys = []
