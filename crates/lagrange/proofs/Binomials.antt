@@ -13,7 +13,6 @@ use Rattle.calculus.proofs.PolynomialLaws.{constant-one, constant-zero, constant
 use Rattle.calculus.proofs.LocalFunctions.{vertex_factor_zero}
 use Rattle.calculus.proofs.FallingProducts as N
 use Rattle.calculus.proofs.Nodes.{factorial_positive}
-use native.Mathlib.Nat as M
 
 -- x (x - 1) .. (x - a + 1) / a!
 abbrev pub binomial : Polynomial → ℕ → Polynomial

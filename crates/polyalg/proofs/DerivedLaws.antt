@@ -1,5 +1,5 @@
 -- Derivatives, term by term
-use Rattle.std.proofs.Common.{max, ◌≡◌, ℕ, zero, suc, ◌+◌, ◌-◌, ◌^◌, ◌<◌, ◌≤◌, true, false, ◌||◌, ◌&&◌, nat_lt, is_none, Some, None, List, [], ◌∷◌, ◌++◌, refl, sym, ap, ap₂, ◌∙◌, subst, arith, length}
+use Rattle.std.proofs.Common.{◌≡◌, ℕ, zero, suc, ◌+◌, ◌-◌, ◌^◌, ◌<◌, ◌≤◌, true, false, ◌||◌, ◌&&◌, nat_lt, is_none, Some, None, List, [], ◌∷◌, ◌++◌, refl, sym, ap, ap₂, ◌∙◌, subst, arith, length}
 use Rattle.std.proofs.Math.ListN.{set}
 use Rattle.algebra.specs.Ring.{natural}
 use Rattle.algebra.specs.Fraction.{Fraction, fractions, mul, mul_comm}

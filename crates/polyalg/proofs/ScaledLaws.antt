@@ -1,12 +1,12 @@
 -- Multiples, term by term
-use Rattle.std.proofs.Common.{max, ◌≤◌, ◌≡◌, ℕ, ◌+◌, ◌-◌, ◌<◌, true, false, ◌||◌, Some, None, List, [], ◌∷◌, ◌++◌, refl, sym, ap, ap₂, ◌∙◌, subst, arith, length, take, drop, length-drop, get_or, drop-cons, add-one}
+use Rattle.std.proofs.Common.{◌≤◌, ◌≡◌, ℕ, ◌+◌, ◌-◌, ◌<◌, true, false, ◌||◌, Some, None, List, [], ◌∷◌, ◌++◌, refl, sym, ap, ap₂, ◌∙◌, subst, arith, length, take, drop, length-drop, get_or, drop-cons, add-one}
 use Rattle.std.proofs.lemmas.List.{take_all}
 use Rattle.algebra.specs.Fraction.{Fraction, mul_comm}
 use Rattle.algebra.specs.RingLaws as L
 use Rattle.algebra.specs.Steps.{product}
 use Rattle.ratio.specs.declared.reduced.Ratio.{Ratio}
 use Rattle.ratio.specs.Value.{fraction_of}
-use Rattle.calculus.specs.Polynomial.{Polynomial, plus, times, constant, monomial, polynomials, plus_assoc, plus-nil, times-plus}
+use Rattle.calculus.specs.Polynomial.{Polynomial, plus, times, constant, monomial, polynomials, plus_assoc, times-plus}
 use Rattle.polyalg.specs.Exponents.{key}
 use Rattle.polyalg.specs.Terms.{term_value, value_of, Rising, keys_and, IsTerm, AreTerms, IsPoly, kept}
 use Rattle.polyalg.specs.Products.{degree_of}

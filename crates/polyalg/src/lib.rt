@@ -18,10 +18,10 @@ mod terms;
 /// The change of variables and the other laws of integrals, over the definitions alone.
 pub use calculus::laws as laws;
 pub use fault::PolyFault;
-pub use integral::{factorial, ref_integral};
+pub use integral::ref_integral;
 pub use poly::Poly;
 pub use term::Term;
-pub use terms::{quotient, whole};
+pub use terms::{factorial, quotient, whole};
 
 #[cfg(test)]
 mod tests;
