@@ -1,5 +1,5 @@
 -- The file as a whole
-use Rattle.std.proofs.Common.{[], ◌∷◌, ◌++◌, ◌≡◌, ◌<◌, ◌≤◌, ◌⊎◌, inl, inr, length, take, drop, List, ℕ, zero, suc, Option, Some, None, false, refl, sym, ap, subst, ◌∙◌, append_assoc, append-nil, arith}
+use Rattle.std.proofs.Common.{[], ◌∷◌, ◌++◌, ◌≡◌, ◌≤◌, ◌⊎◌, inl, inr, length, take, drop, List, ℕ, Option, Some, None, false, refl, sym, ap, subst, ◌∙◌, append_assoc, append-nil, arith}
 use Rattle.std.proofs.lemmas.List.{take-append-drop}
 use Rattle.slices.specs.declared.toks.Tok.{Tok}
 use Rattle.slices.specs.declared.toks.LexAt.{LexAt}

@@ -3,7 +3,6 @@ use Rattle.std.specs.Prelude.{◌≡◌, ◌<◌, ◌≤◌, ◌⊎◌, ℕ, Boo
 use Rattle.slices.specs.declared.toks.Tok.{Tok}
 use Rattle.slices.specs.declared.toks.LexAt.{LexAt}
 use Rattle.slices.specs.FormTokens.{Scan, form_begins}
-use Rattle.slices.specs.Tokens.{token_of}
 use Rattle.ufl_syntax.specs.declared.class.Class.{Class}
 use Rattle.ufl_syntax.specs.declared.class.Class.TheVariants as k
 use Rattle.ufl_syntax.specs.declared.class.Lexeme.{Lexeme}
@@ -47,7 +46,7 @@ line_started line _ own = Some (line_or line own)
 
 abbrev pub started : Option ℕ → List Lexeme → Option ℕ
 started line [] = line
-started line (t ∷ ts) = started (line_started line t.class t.tok.line) ts
+started line (t ∷ ts) = started (line_started line t.class t.line) ts
 
 -- The line on which the statement behind these tokens begins: that of the first token behind the last end of a line, and its own where there is none.
 unfoldable pub statement_line : List Lexeme → ℕ → ℕ
@@ -67,8 +66,8 @@ is_foreign _ = false
 abbrev pub wrong_at : List Lexeme → Lexeme → FormRefusal
 wrong_at front bad =
     if is_foreign bad.class
-    then record { kind = r.Unsupported; line = statement_line front bad.tok.line; from = bad.tok.from; len = length bad.tok.text.now }
-    else wordless r.Syntax (statement_line front bad.tok.line)
+    then record { kind = r.Unsupported; line = statement_line front bad.line; from = bad.span.from; len = bad.span.len }
+    else wordless r.Syntax (statement_line front bad.line)
 
 abbrev pub IsFile : List ℕ → List Stmt → Type 0
 IsFile text sts = (length text ≤ 262144) × (ts : List Tok) × Scan (form_begins text) ts None × File 64 (lexemes ts) sts []
@@ -81,7 +80,7 @@ pub data IsUnread : List ℕ → FormRefusal → Type 0 where
   wrong_token : {text : List ℕ} {ts : List Tok} {e : Option LexAt} (front : List Lexeme) (bad : Lexeme) (after : List Lexeme)
       → Scan (form_begins text) ts e → lexemes ts ≡ front ++ bad ∷ after → IsRefused 64 front bad → IsWrong 64 front bad → IsUnread text (wrong_at front bad)
   too_deep : {text : List ℕ} {ts : List Tok} {e : Option LexAt} (front : List Lexeme) (bad : Lexeme) (after : List Lexeme)
-      → Scan (form_begins text) ts e → lexemes ts ≡ front ++ bad ∷ after → IsRefused 64 front bad → IsTooDeep 64 front bad → IsUnread text (wordless r.Deep (statement_line front bad.tok.line))
+      → Scan (form_begins text) ts e → lexemes ts ≡ front ++ bad ∷ after → IsRefused 64 front bad → IsTooDeep 64 front bad → IsUnread text (wordless r.Deep (statement_line front bad.line))
 
 -- why a file is refused, wherever memory lasts
 abbrev pub IsRefusedFile : List ℕ → FormRefusal → Type 0
@@ -90,10 +89,6 @@ IsRefusedFile text e = ((262144 < length text) × (e ≡ wordless r.TooLong 0)) 
 abbrev pub IsFormRefusal : List ℕ → FormRefusal → Type 0
 IsFormRefusal text e = (e ≡ wordless r.Memory 0) ⊎ IsRefusedFile text e
 
--- the same token, wherever its text lies in memory
-abbrev pub SameToken : Tok → Tok → Type 0
-SameToken t u = token_of t ≡ token_of u
-
 -- the same, from what the reader of tokens says
 abbrev pub wrong_by : List Lexeme → List Lexeme → FormRefusal
 wrong_by front [] = wordless r.Syntax 0
@@ -101,7 +96,7 @@ wrong_by front (bad ∷ after) = wrong_at front bad
 
 abbrev pub deep_by : List Lexeme → List Lexeme → FormRefusal
 deep_by front [] = wordless r.Deep 0
-deep_by front (bad ∷ after) = wordless r.Deep (statement_line front bad.tok.line)
+deep_by front (bad ∷ after) = wordless r.Deep (statement_line front bad.line)
 
 abbrev pub refusal_for : List Lexeme → Fault → Option LexAt → FormRefusal
 refusal_for ts f.Memory e = wordless r.Memory 0

@@ -18,10 +18,7 @@ use ufl_syntax::{Lexeme, Stmt};
 pub const LIMIT: usize = 262_144;
 
 // All tokens with their classes, and the place where no token starts, if there is one.
-fn read_tokens<'a>(
-    alloc: Global,
-    text: &'a [u8],
-) -> Result<(Items<Lexeme<'a>>, Option<LexAt>), AllocError>
+fn read_tokens(alloc: Global, text: &[u8]) -> Result<(Items<Lexeme>, Option<LexAt>), AllocError>
     requires { length text.now < 2 ^ 32 }
     ensures { IfOk result (λ r. (ts : List Tok) × Scan (form_begins text.now) ts r.1 × (r.0 ≡ lexemes ts)) }
 {
@@ -43,7 +40,7 @@ fn read_tokens<'a>(
 ///
 /// The refusal is `TooLong`, or that of the first token with which no list of statements begins; `Lex` where no token starts behind
 /// tokens that can be gone on with.
-pub fn read_file<'a>(alloc: Global, text: &'a [u8]) -> Result<Items<Stmt<'a>>, FormRefusal>
+pub fn read_file(alloc: Global, text: &[u8]) -> Result<Items<Stmt>, FormRefusal>
     ensures found { IfOk result (λ sts. IsFile text.now sts) }
     ensures refused { IfErr result (λ e. IsFormRefusal text.now e) }
 {

@@ -15,4 +15,4 @@ pub use file::{LIMIT, read_file};
 pub use refusal::{FormKind, FormRefusal};
 pub use statements::read_statements;
 pub use tokens::Fault;
-pub use ufl_syntax::{Arg, AssignOp, Next, Post, Stmt, Syn};
+pub use ufl_syntax::{Arg, AssignOp, Next, Post, Span, Stmt, Syn};

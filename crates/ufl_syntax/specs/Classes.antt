@@ -1,5 +1,5 @@
 -- What a token is to the grammar, by its text
-use Rattle.std.specs.Prelude.{ℕ, Bool, true, false, ◌||◌, if◌then◌else◌, List, [], ◌∷◌, codes}
+use Rattle.std.specs.Prelude.{ℕ, Bool, true, false, ◌||◌, if◌then◌else◌, List, [], ◌∷◌, length, codes}
 use Rattle.std.specs.Str.{bytes_eq}
 use Rattle.slices.specs.declared.toks.Tok.{Tok}
 use Rattle.slices.specs.declared.toks.TokKind.{TokKind}
@@ -63,7 +63,7 @@ class_by t.Symbol w = sign_class w
 class_by t.End w = k.End
 
 abbrev pub lexeme_of : Tok → Lexeme
-lexeme_of t = record { tok = t; class = class_by t.kind t.text.now }
+lexeme_of t = record { span = record { from = t.from; len = length t.text.now }; line = t.line; class = class_by t.kind t.text.now }
 
 abbrev pub lexemes : List Tok → List Lexeme
 lexemes [] = []

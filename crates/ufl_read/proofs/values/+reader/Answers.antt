@@ -41,14 +41,14 @@ atom-returns-in_err-_close-in-Open t c =
 pub atom-returns-in-Name : goal.atom-returns-in-Name
 atom-returns-in-Name t c = (
   omega arith,
-  subst (λ ts. Atom c.args.room ts (s.Name c.in-Some.first.tok) (drop (c.args.at + 1) c.args.tokens.now)) (sym c.in-Some.ensures.0) (a_name c.in-Name.is),
+  subst (λ ts. Atom c.args.room ts (s.Name c.in-Some.first.span) (drop (c.args.at + 1) c.args.tokens.now)) (sym c.in-Some.ensures.0) (a_name c.in-Name.is),
   λ stack. take_at (an_atom c.args.room) stack _ c.in-Some.first _ [] c.in-Some.ensures.0 (ap (λ j. part_on (an_atom c.args.room) j) c.in-Name.is),
 )
 
 pub atom-returns-in-Number : goal.atom-returns-in-Number
 atom-returns-in-Number t c = (
   omega arith,
-  subst (λ ts. Atom c.args.room ts (s.Number c.in-Some.first.tok) (drop (c.args.at + 1) c.args.tokens.now)) (sym c.in-Some.ensures.0) (a_number c.in-Number.is),
+  subst (λ ts. Atom c.args.room ts (s.Number c.in-Some.first.span) (drop (c.args.at + 1) c.args.tokens.now)) (sym c.in-Some.ensures.0) (a_number c.in-Number.is),
   λ stack. take_at (an_atom c.args.room) stack _ c.in-Some.first _ [] c.in-Some.ensures.0 (ap (λ j. part_on (an_atom c.args.room) j) c.in-Number.is),
 )
 
@@ -531,7 +531,7 @@ postfix-all-smaller t c = omega (arith, c.in-Some.ensures.1, c.in_ok-one.ensures
 pub atom-returns-in-Text : goal.atom-returns-in-Text
 atom-returns-in-Text t c = (
   omega arith,
-  subst (λ ts. Atom c.args.room ts (s.Text c.in-Some.first.tok) (drop (c.args.at + 1) c.args.tokens.now)) (sym c.in-Some.ensures.0) (a_text c.in-Text.is),
+  subst (λ ts. Atom c.args.room ts (s.Text c.in-Some.first.span) (drop (c.args.at + 1) c.args.tokens.now)) (sym c.in-Some.ensures.0) (a_text c.in-Text.is),
   λ stack. take_at (an_atom c.args.room) stack _ c.in-Some.first _ [] c.in-Some.ensures.0 (ap (λ j. part_on (an_atom c.args.room) j) c.in-Text.is),
 )
 
