@@ -9,13 +9,10 @@ ghost use Rattle.ufl_read.specs.Refusals.{IsFile, IsFormRefusal};
 use crate::refusal::{FormKind, FormRefusal, refusal_of};
 use crate::statements::read_statements;
 use crate::tokens::Fault;
-use slices::{FormToks, LexAt};
+use slices::{FORM_LIMIT, FormToks, LexAt};
 use sqlite_items::Items;
 use std::alloc::{AllocError, Global};
 use ufl_syntax::{Lexeme, Stmt};
-
-/// How many bytes a form file may have.
-pub const LIMIT: usize = 262_144;
 
 // All tokens with their classes, and the place where no token starts, if there is one.
 fn read_tokens(alloc: Global, text: &[u8]) -> Result<(Items<Lexeme>, Option<LexAt>), AllocError>
@@ -38,13 +35,14 @@ fn read_tokens(alloc: Global, text: &[u8]) -> Result<(Items<Lexeme>, Option<LexA
 
 /// The statements of a form file.
 ///
-/// The refusal is `TooLong`, or that of the first token with which no list of statements begins; `Lex` where no token starts behind
+/// The refusal is `TooLong`, or that of the first token with which no list of statements begins; `Lex` where no token
+/// starts behind
 /// tokens that can be gone on with.
 pub fn read_file(alloc: Global, text: &[u8]) -> Result<Items<Stmt>, FormRefusal>
     ensures found { IfOk result (λ sts. IsFile text.now sts) }
     ensures refused { IfErr result (λ e. IsFormRefusal text.now e) }
 {
-    if text.len() > LIMIT {
+    if text.len() > FORM_LIMIT as usize {
         return Err(FormRefusal::new(FormKind::TooLong, 0));
     }
     let (lexemes, lost) = read_tokens(alloc, text)?;

@@ -26,5 +26,6 @@ pub fn one_outcome()
 
 /// Each token of the statements of a text lies within the text.
 pub fn cuts()
-    ensures { (text : List ℕ) (sts : List Stmt) → IsFile text sts → EachStatement (λ t. t.from + t.len ≤ length text) sts }
+    ensures { (text : List ℕ) (sts : List Stmt) → IsFile text sts
+        → EachStatement (λ t. t.from + t.len ≤ length text) sts }
 {}

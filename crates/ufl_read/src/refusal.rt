@@ -35,7 +35,8 @@ pub enum FormKind {
 }
 
 impl FormKind {
-    /// The number that stands before its name in messages, from 1 to 15; none for `Memory`, which is no fault of the file.
+    /// The number that stands before its name in messages, from 1 to 15; none for `Memory`, which is no fault of the
+    /// file.
     pub fn number(self) -> Option<u8>
         ensures { result ≡ kind_number self }
     {
@@ -60,7 +61,8 @@ impl FormKind {
     }
 }
 
-/// Why a form file is refused: the line on which the statement begins, counted from 1, or 0 where no statement is refused; and the
+/// Why a form file is refused: the line on which the statement begins, counted from 1, or 0 where no statement is
+/// refused; and the
 /// refused word, by its place in the file and its length in bytes, both 0 where there is none.
 #[derive(Clone, Copy, Debug, PartialEq, Eq)]
 pub struct FormRefusal {
@@ -150,7 +152,8 @@ fn wrong(front: &[Lexeme], bad: Lexeme) -> FormRefusal
     }
 }
 
-// The refusal of tokens with a fault, where no token starts there behind them. The tokens of a whole file never end too early.
+// The refusal of tokens with a fault, where no token starts there behind them. The tokens of a whole file never end
+// too early.
 pub fn refusal_of(tokens: &[Lexeme], fault: Fault, lost: Option<LexAt>) -> FormRefusal
     ensures { result ≡ refusal_for tokens.now fault lost }
 {

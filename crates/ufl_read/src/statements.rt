@@ -7,14 +7,15 @@ ghost use Rattle.ufl_syntax.specs.declared.tree.Stmt.{Stmt};
 ghost use Rattle.ufl_syntax.specs.declared.span.Span.{Span};
 ghost use Rattle.ufl_read.specs.Reads.{Reads, ReadsAll, IsEnded, IsAssigned, IsImport, IsWord, IsSign, ended_parts, assigned_parts, import_parts, bracket_parts, IsRefusal};
 
+use crate::lists::add;
 use crate::tokens::{Fault, expect, expect_name, peek, same};
 use crate::values::value;
 use sqlite_items::Items;
 use std::alloc::{AllocError, Global};
 use ufl_syntax::{AssignOp, Class, Lexeme, Span, Stmt, Syn};
 
-// How many brackets, signs and `**` may be open at one token.
-const DEPTH: u32 = 64;
+/// How many brackets, signs and `**` may be open at one token.
+pub const DEPTH_LIMIT: u32 = 64;
 
 // A value and the end of its line.
 fn ended(alloc: Global, tokens: &[Lexeme], at: usize, room: u32) -> Result<(Syn, usize), Fault>
@@ -39,7 +40,8 @@ fn later_targets(
     from: usize,
     before: Items<Span>,
 ) -> Result<(Items<Span>, usize), Fault>
-    ensures { Reads (λ r ts rest. (names : List Span) × LaterNames ts names rest × (r.0 ≡ before ++ names)) (λ r. r.1) later_names tokens.now from result }
+    ensures { Reads (λ r ts rest. (names : List Span) × LaterNames ts names rest
+        × (r.0 ≡ before ++ names)) (λ r. r.1) later_names tokens.now from result }
 {
     let mut names = before;
     let mut at = from;
@@ -66,7 +68,7 @@ fn one_target(alloc: Global, name: Span) -> Result<Items<Span>, AllocError>
     ensures { IfOk result (λ names. names ≡ name ∷ []) }
 {
     let mut names = Items::new(alloc);
-    names.push(name)?;
+    add(alloc, &mut names, name)?;
     Ok(names)
 }
 
@@ -221,11 +223,12 @@ fn statement(alloc: Global, tokens: &[Lexeme], at: usize, room: u32) -> Result<(
 
 /// The statements that all the tokens are.
 ///
-/// The fault is at the first token such that no list of statements begins with the tokens up to it, or the tokens end too early.
+/// The fault is at the first token such that no list of statements begins with the tokens up to it, or the tokens end
+/// too early.
 pub fn read_statements(alloc: Global, tokens: &[Lexeme]) -> Result<Items<Stmt>, Fault>
-    ensures found { IfOk result (λ sts. File DEPTH tokens.now sts []) }
-    ensures only { IfOk result (λ sts. (xs : List Stmt) → File DEPTH tokens.now xs [] → sts ≡ xs) }
-    ensures refused { IfErr result (λ f. IsRefusal DEPTH tokens.now f) }
+    ensures found { IfOk result (λ sts. File DEPTH_LIMIT tokens.now sts []) }
+    ensures only { IfOk result (λ sts. (xs : List Stmt) → File DEPTH_LIMIT tokens.now xs [] → sts ≡ xs) }
+    ensures refused { IfErr result (λ f. IsRefusal DEPTH_LIMIT tokens.now f) }
 {
     let mut all = Items::new(alloc);
     let mut at = 0;
@@ -233,7 +236,7 @@ pub fn read_statements(alloc: Global, tokens: &[Lexeme]) -> Result<Items<Stmt>, 
         if at >= tokens.len() {
             return Ok(all);
         }
-        let (one, end) = statement(alloc, tokens, at, DEPTH)?;
+        let (one, end) = statement(alloc, tokens, at, DEPTH_LIMIT)?;
         all.push(one)?;
         at = end;
     }

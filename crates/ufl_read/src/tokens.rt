@@ -102,14 +102,16 @@ pub fn same(wanted: Class, class: Class) -> bool
 }
 
 pub fn peek(tokens: &[Lexeme], at: usize) -> Option<Lexeme>
-    ensures { MatchOption result (drop at tokens.now ≡ []) (λ t. (drop at tokens.now ≡ t ∷ drop (at + 1) tokens.now) × (at < length tokens.now)) }
+    ensures { MatchOption result (drop at tokens.now ≡ []) (λ t. (drop at tokens.now ≡ t ∷ drop (at + 1) tokens.now)
+        × (at < length tokens.now)) }
 {
     tokens.get(at).copied()
 }
 
 // A token of this class, and the place after it.
 pub fn expect(tokens: &[Lexeme], at: usize, class: Class) -> Result<(Lexeme, usize), Fault>
-    ensures { Reads (λ r ts rest. (ts ≡ r.0 ∷ rest) × (same_class class r.0.class ≡ true)) (λ r. r.1) (token class) tokens.now at result }
+    ensures { Reads (λ r ts rest. (ts ≡ r.0 ∷ rest)
+        × (same_class class r.0.class ≡ true)) (λ r. r.1) (token class) tokens.now at result }
 {
     let Some(first) = peek(tokens, at) else {
         return Err(Fault::Short);

@@ -8,6 +8,7 @@ ghost use Rattle.ufl_syntax.specs.Machine.{a_value, a_later, a_sum, a_term, a_si
 ghost use Rattle.ufl_syntax.specs.declared.tree.Syn.{Syn};
 ghost use Rattle.ufl_read.specs.Reads.{Reads, EndsTerm};
 
+use crate::lists::add;
 use crate::tokens::{
     Fault, deeper, ends_term, expect, expect_name, factors, follows, keyed, peek, same, signs,
     starts,
@@ -56,7 +57,7 @@ pub fn value(alloc: Global, tokens: &[Lexeme], at: usize, room: u32) -> Result<(
         return Ok((first, past));
     }
     let mut before = Items::new(alloc);
-    before.push(first)?;
+    add(alloc, &mut before, first)?;
     let (items, end) = later(alloc, tokens, past + 1, room, before)?;
     Ok((Syn::Tuple(comma.span, items), end))
 }
@@ -70,7 +71,8 @@ fn later(
     room: u32,
     before: Items<Syn>,
 ) -> Result<(Items<Syn>, usize), Fault>
-    ensures { Reads (λ r ts rest. (es : List Syn) × Later room ts es rest × (r.0 ≡ before ++ es)) (λ r. r.1) (a_later room) tokens.now from result }
+    ensures { Reads (λ r ts rest. (es : List Syn) × Later room ts es rest
+        × (r.0 ≡ before ++ es)) (λ r. r.1) (a_later room) tokens.now from result }
 {
     let mut items = before;
     let mut at = from;
@@ -82,7 +84,7 @@ fn later(
             return Ok((items, at));
         }
         let (item, past) = sum(alloc, tokens, at, room)?;
-        items.push(item)?;
+        add(alloc, &mut items, item)?;
         let Some(comma) = peek(tokens, past) else {
             return Ok((items, past));
         };
@@ -147,7 +149,7 @@ fn sum(alloc: Global, tokens: &[Lexeme], from: usize, room: u32) -> Result<(Syn,
             return Ok((chained(alloc, first, chain)?, at));
         }
         let (right, end) = term(alloc, tokens, at + 1, room)?;
-        chain.push(Next { op: op.span, right })?;
+        add(alloc, &mut chain, Next { op: op.span, right })?;
         at = end;
     }
 }
@@ -172,7 +174,7 @@ fn long_term(
             return Ok((chained(alloc, first, chain)?, at));
         }
         let (right, end) = signed(alloc, tokens, at + 1, room)?;
-        chain.push(Next { op: op.span, right })?;
+        add(alloc, &mut chain, Next { op: op.span, right })?;
         at = end;
     }
 }
@@ -200,7 +202,7 @@ fn signed(alloc: Global, tokens: &[Lexeme], at: usize, room: u32) -> Result<(Syn
     let inside = deeper(room, past)?;
     let (right, end) = signed(alloc, tokens, past + 1, inside)?;
     let mut chain = Items::new(alloc);
-    chain.push(Next { op: op.span, right })?;
+    add(alloc, &mut chain, Next { op: op.span, right })?;
     Ok((Syn::Binary(Boxed::new(alloc, base)?, chain), end))
 }
 
@@ -219,7 +221,7 @@ fn postfix(alloc: Global, tokens: &[Lexeme], from: usize, room: u32) -> Result<(
             return Ok((applied(alloc, first, all)?, at));
         }
         let (one, end) = post(alloc, tokens, at, room)?;
-        all.push(one)?;
+        add(alloc, &mut all, one)?;
         at = end;
     }
 }
@@ -272,7 +274,7 @@ fn arguments(
             return Ok((all, at));
         }
         let (item, past) = argument(alloc, tokens, at, room)?;
-        all.push(item)?;
+        add(alloc, &mut all, item)?;
         let Some(comma) = peek(tokens, past) else {
             return Ok((all, past));
         };

@@ -1,5 +1,5 @@
 -- A chain of calls, indices and attributes begins with no chain.
-use Rattle.std.proofs.Common.{[], ◌∷◌, ◌++◌, ◌≡◌, List, ℕ, Option, refl, sym, ap, subst, ◌∙◌, append_assoc, append-nil}
+use Rattle.std.proofs.Common.{[], ◌∷◌, ◌++◌, ◌≡◌, List, ℕ, refl, sym, ap, ◌∙◌, append_assoc, append-nil}
 use Rattle.ufl_syntax.specs.declared.span.Span.{Span}
 use Rattle.ufl_syntax.specs.declared.class.Lexeme.{Lexeme}
 use Rattle.ufl_syntax.specs.declared.tree.Syn.{Syn, Syn-F, out-Syn, roll-Syn, roll-out-Syn}
@@ -7,7 +7,7 @@ use Rattle.ufl_syntax.specs.declared.tree.Syn.TheVariants as s
 use Rattle.ufl_syntax.specs.declared.tree.Next.{Next}
 use Rattle.ufl_syntax.specs.declared.tree.Post.{Post}
 use Rattle.ufl_syntax.specs.declared.tree.Arg.{Arg}
-use Rattle.ufl_syntax.specs.Grammar.{base_by, posts_by, base_of, posts_of, applied, chain, Value, single, tuple, Sum, sum, Adds, Term, term, Muls, Signed, sign, plain, power, Postfix, postfix, Posts, Atom, a_name, a_number, a_text, bracketed, a_list}
+use Rattle.ufl_syntax.specs.Grammar.{base_by, posts_by, base_of, posts_of, applied, chain, Value, single, tuple, Sum, sum, Term, term, Signed, sign, plain, power, Postfix, postfix, Atom, a_name, a_number, a_text, bracketed, a_list}
 
 pub base_at : (e : Syn) (l : Syn-F Post Syn Arg Next) → out-Syn e ≡ l → base_of e ≡ base_by e l
 unfolding base_of

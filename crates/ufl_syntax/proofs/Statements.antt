@@ -1,5 +1,5 @@
 -- Statements are known by their parts.
-use Rattle.std.proofs.Common.{[], ◌∷◌, ◌≡◌, ◌≢◌, ◌<◌, true, false, Bool, List, ℕ, Option, Some, None, is_some, length, refl, sym, ap, subst, ◌∙◌, arith}
+use Rattle.std.proofs.Common.{[], ◌≡◌, ◌≢◌, ◌<◌, true, false, Bool, List, ℕ, Option, Some, None, is_some, length, refl, sym, ap, subst, ◌∙◌, arith}
 use Rattle.std.specs.Coded.{×_prop, →_prop, le_prop}
 use mathlib.Core.Bool.{Bool-set}
 use Rattle.ufl_syntax.specs.declared.span.Span.{Span}

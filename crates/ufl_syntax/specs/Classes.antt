@@ -10,24 +10,30 @@ use Rattle.ufl_syntax.specs.declared.class.Lexeme.{Lexeme}
 
 -- the keywords besides `from` and `import`, by their length
 unfoldable pub is_keyword_of_two : List ℕ → Bool
-is_keyword_of_two w = bytes_eq w (codes "as") || bytes_eq w (codes "if") || bytes_eq w (codes "in") || bytes_eq w (codes "is") || bytes_eq w (codes "or")
+is_keyword_of_two w = bytes_eq w (codes "as") || bytes_eq w (codes "if") || bytes_eq w (codes "in")
+    || bytes_eq w (codes "is") || bytes_eq w (codes "or")
 
 unfoldable pub is_keyword_of_three : List ℕ → Bool
-is_keyword_of_three w = bytes_eq w (codes "and") || bytes_eq w (codes "def") || bytes_eq w (codes "del") || bytes_eq w (codes "for") || bytes_eq w (codes "not") || bytes_eq w (codes "try")
+is_keyword_of_three w = bytes_eq w (codes "and") || bytes_eq w (codes "def") || bytes_eq w (codes "del")
+    || bytes_eq w (codes "for") || bytes_eq w (codes "not") || bytes_eq w (codes "try")
 
 unfoldable pub is_keyword_of_four : List ℕ → Bool
-is_keyword_of_four w = bytes_eq w (codes "elif") || bytes_eq w (codes "else") || bytes_eq w (codes "pass") || bytes_eq w (codes "with")
+is_keyword_of_four w = bytes_eq w (codes "elif") || bytes_eq w (codes "else") || bytes_eq w (codes "pass")
+    || bytes_eq w (codes "with")
 
 unfoldable pub is_keyword_of_five : List ℕ → Bool
-is_keyword_of_five w = bytes_eq w (codes "class") || bytes_eq w (codes "raise") || bytes_eq w (codes "while") || bytes_eq w (codes "yield")
+is_keyword_of_five w = bytes_eq w (codes "class") || bytes_eq w (codes "raise") || bytes_eq w (codes "while")
+    || bytes_eq w (codes "yield")
 
 unfoldable pub is_longer_keyword : List ℕ → Bool
 is_longer_keyword w =
-    bytes_eq w (codes "assert") || bytes_eq w (codes "except") || bytes_eq w (codes "global") || bytes_eq w (codes "lambda") || bytes_eq w (codes "return")
+    bytes_eq w (codes "assert") || bytes_eq w (codes "except") || bytes_eq w (codes "global")
+    || bytes_eq w (codes "lambda") || bytes_eq w (codes "return")
     || bytes_eq w (codes "finally") || bytes_eq w (codes "nonlocal")
 
 abbrev pub is_other_keyword : List ℕ → Bool
-is_other_keyword w = is_keyword_of_two w || is_keyword_of_three w || is_keyword_of_four w || is_keyword_of_five w || is_longer_keyword w
+is_other_keyword w = is_keyword_of_two w || is_keyword_of_three w || is_keyword_of_four w || is_keyword_of_five w
+    || is_longer_keyword w
 
 unfoldable pub word_class : List ℕ → Class
 word_class w =

@@ -62,4 +62,5 @@ pub data InValue (P : Span → Type 0) : Option Syn → Type 0 where
 
 pub data EachStatement (P : Span → Type 0) : List Stmt → Type 0 where
   no_statement : EachStatement P []
-  one_statement : {st : Stmt} {sts : List Stmt} → EachName P st.targets → InValue P st.value → EachStatement P sts → EachStatement P (st ∷ sts)
+  one_statement : {st : Stmt} {sts : List Stmt} → EachName P st.targets → InValue P st.value → EachStatement P sts
+      → EachStatement P (st ∷ sts)

@@ -32,7 +32,8 @@ pub struct Stmt {
     pub ghost assigned: { op ≢ ImportAll → (0 < length targets) × (is_some value ≡ true) },
 }
 
-/// A value as it is written. Chains of one level are lists, so a tree is no higher than its brackets, signs and `**` nest.
+/// A value as it is written. Chains of one level are lists, so a tree is no higher than its brackets, signs and `**`
+/// nest.
 #[cycle(syn)]
 #[derive(Drop)]
 pub enum Syn {

@@ -384,7 +384,7 @@ fn counts_what_is_open(rt: HostRuntime) -> Result<(), Fail> {
 #[test]
 fn refuses_long_files(rt: HostRuntime) -> Result<(), Fail> {
     let mut text = nested(rt.alloc(), "", "b", "", 0)?;
-    for _ in 5..LIMIT {
+    for _ in 5..FORM_LIMIT {
         put(&mut text, b" ");
     }
     assert!(rt; read_file(rt.alloc(), text.as_slice()).is_ok());
