@@ -1,11 +1,10 @@
 -- The numbers in the line of a cell
-use Rattle.std.proofs.Common.{◌≡◌, ℕ, ◌+◌, ◌≤◌, true, List, length, sym, arith}
+use Rattle.std.proofs.Common.{◌≡◌, ℕ, ◌+◌, true, List, length, arith}
 use Rattle.std.proofs.lemmas.List.{length-take-le}
 use Rattle.spaces.specs.Cell.{dimension}
 use Rattle.mesh_in.specs.declared.header.Header.{Header}
 use Rattle.mesh_in.specs.CellLine.{cell_size, vertices_in, IsCellLine}
 use Rattle.mesh_in.specs.MeshData.{are_below, is_distinct}
-use Rattle.mesh_in.specs.Version.{marker_count}
 
 -- there are as many vertices as a cell has
 pub length-vertices : (h : Header) (numbers : List ℕ) → length numbers ≡ cell_size h → length (vertices_in h.kind numbers) ≡ dimension h.kind + 1

@@ -54,12 +54,10 @@ cell_pushed h old new vertices ws appends are below distinct =
     let e : vertices ≡ vertices_in h.kind p.0 = are ∙ ap (vertices_in h.kind) (ap (drop (length old)) p.2 ∙ drop-append_seam old p.0) in
     (p.0, p.2, line_of_cell h p.0 (length-row number_of (cell_size h) ws p.0 p.1) (subst (λ c. are_below h.vertices c ≡ true) e below) (subst (λ c. is_distinct c ≡ true) e distinct), p.1)
 
--- what was read stands behind what was there, and the vertices of a line that is refused are those of its row
-pub cell_read : (h : Header) (old new vertices : List ℕ) (ws : List (List ℕ)) → appended old (row number_of (cell_size h) ws) ≡ Some new → vertices ≡ vertices_in h.kind (drop (length old) new)
-    → (cell : List ℕ) × (row number_of (cell_size h) ws ≡ Some cell) × (vertices ≡ vertices_in h.kind cell)
-cell_read h old new vertices ws appends are =
+pub length-read : (h : Header) (old new : List ℕ) (ws : List (List ℕ)) → appended old (row number_of (cell_size h) ws) ≡ Some new → length (drop (length old) new) ≡ cell_size h
+length-read h old new ws appends =
     let p = added old new (row number_of (cell_size h) ws) appends in
-    (p.0, p.1, are ∙ ap (vertices_in h.kind) (ap (drop (length old)) p.2 ∙ drop-append_seam old p.0))
+    ap length (ap (drop (length old)) p.2 ∙ drop-append_seam old p.0) ∙ length-row number_of (cell_size h) ws p.0 p.1
 
 -- ---- points
 

@@ -1,5 +1,5 @@
 -- The mesh of two lists
-use Rattle.std.proofs.Common.{◌≡◌, ℕ, zero, suc, ◌+◌, ◌*◌, ◌<◌, ◌≤◌, List, [], ◌∷◌, length, take, drop, Some, refl, sym, ap, subst, ◌∙◌, arith}
+use Rattle.std.proofs.Common.{◌≡◌, ℕ, zero, suc, ◌+◌, ◌*◌, ◌<◌, ◌≤◌, List, [], ◌∷◌, length, take, drop, Some, sym, ap, subst, ◌∙◌, arith}
 use Rattle.std.proofs.lemmas.List.{length-take-le, length-drop, length-map}
 use Rattle.std.specs.Prelude.{map, slice_get}
 use Rattle.std.specs.List.{AllByRecursion}
@@ -51,6 +51,10 @@ line_at h numbers k = take (cell_size h) (drop (k * cell_size h) numbers)
 
 pub cell_inside : (h : Header) (coordinates : List Ratio) (numbers : List ℕ) (m : MeshData Ratio) (k : ℕ) → Stores h coordinates numbers m → k < length m.cells → k * cell_size h + cell_size h ≤ length numbers
 cell_inside h coordinates numbers m k s lt = rw s.fits.all_numbers (row_inside (cell_size h) h.cells k (below_cells h coordinates numbers m k s lt))
+
+pub length-line : (h : Header) (coordinates : List Ratio) (numbers : List ℕ) (m : MeshData Ratio) (k : ℕ) → Stores h coordinates numbers m → k < length m.cells → length (line_at h numbers k) ≡ cell_size h
+length-line h coordinates numbers m k s lt =
+    length-take-le (cell_size h) (drop (k * cell_size h) numbers) (omega (arith, cell_inside h coordinates numbers m k s lt, length-drop (k * cell_size h) numbers))
 
 get-map : {A B : Type 0} (f : A → B) (xs : List A) (k : ℕ) (x : A) → slice_get xs k ≡ Some x → slice_get (map f xs) k ≡ Some (f x)
 get-map f [] k x e = absurd cc

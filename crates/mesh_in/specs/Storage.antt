@@ -1,5 +1,5 @@
 -- A mesh as two lists, of all coordinates and of all numbers in the lines of cells
-use Rattle.std.specs.Prelude.{◌≡◌, ℕ, ◌+◌, ◌*◌, ◌≤◌, List, length}
+use Rattle.std.specs.Prelude.{◌≡◌, ℕ, ◌*◌, ◌≤◌, List, length}
 use Rattle.std.specs.List.{AllByRecursion}
 use Rattle.ratio.specs.declared.reduced.Ratio.{Ratio}
 use Rattle.spaces.specs.Cell.{dimension}

@@ -1,6 +1,5 @@
 use Rattle.std.proofs.Common.{◌≡◌, ◌*◌, ◌+◌, length, refl, sym, ap, inl, inr, ◌∙◌, arith}
 use Rattle.std.proofs.lemmas.Result.{err_from_is_err_and}
-use Rattle.spaces.specs.Cell.{dimension}
 use Rattle.mesh_in.specs.Line.{words}
 use Rattle.mesh_in.specs.CellLine.{cell_size}
 use Rattle.mesh_in.specs.MeshData.{rows}

@@ -1,4 +1,4 @@
-use Rattle.std.proofs.Common.{◌≡◌, ◌+◌, ◌*◌, List, length, []}
+use Rattle.std.proofs.Common.{◌≡◌, ◌*◌, List, length, []}
 use Rattle.std.specs.List.{AllByRecursion}
 use Rattle.algebra.specs.Fraction.{Fraction}
 use Rattle.mesh_in.specs.CellLine.{cell_size, IsCellLine}

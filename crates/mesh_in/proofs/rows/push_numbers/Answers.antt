@@ -14,7 +14,7 @@ returns-in_default-read_number-clause-err c =
 
 pub words-preserved : goal.words-preserved
 words-preserved c =
-    let more = one_value number_of c.args.count c.words.counter c.words.numbers.items (words c.words.rest.now) c.in-Some.word.now (words c.in-Some.after.now) c.in-Some-read_number.vertex c.args.numbers.now.items (row number_of c.args.count (words c.args.line.text.now)) c.words-test.true c.in-Some.ensures (sym c.in-Some-read_number.ensures) c.words.invariant in
+    let more = one_value number_of c.args.count c.words.counter c.words.numbers.items (words c.words.rest.now) c.in-Some.word.now (words c.in-Some.after.now) c.in-Some-read_number.number c.args.numbers.now.items (row number_of c.args.count (words c.args.line.text.now)) c.words-test.true c.in-Some.ensures (sym c.in-Some-read_number.ensures) c.words.invariant in
     subst (λ front. Completes number_of c.args.count (c.words.counter + 1) front (words c.in-Some.after.now) c.args.numbers.now.items (row number_of c.args.count (words c.args.line.text.now))) (sym c.in_ok-push.ensures.items) more
 
 pub returns-then-has_words-clause-err : goal.returns-then-has_words-clause-err
