@@ -9,9 +9,9 @@ use Rattle.assembly.specs.declared.refusal.RunRefusal.{RunRefusal}
 use Rattle.form_values.specs.FormValues.{AreTriples}
 use Rattle.form_values.specs.Shares.{HasMatrix, Refuses}
 use Rattle.ffc.specs.Inputs.{Loads, HasForm, FormCause, HasMesh, MeshCause}
-use Rattle.ffc.specs.Outcome.{run_outcome}
-use Rattle.ffc.specs.Text.{matrix_text}
-use Rattle.ffc.specs.declared.outcome.Outcome.{Outcome}
+use Rattle.answers.specs.Outcome.{run_outcome}
+use Rattle.answers.specs.MatrixText.{matrix_text}
+use Rattle.answers.specs.declared.outcome.Outcome.{Outcome}
 
 -- how many rows there are: the vertices that occur in some cell
 abbrev pub row_count : MeshData Fraction → ℕ

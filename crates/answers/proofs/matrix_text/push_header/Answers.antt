@@ -1,6 +1,6 @@
 use Rattle.std.proofs.Common.{◌∙◌, ◌++◌, ap}
-use Rattle.ffc.proofs.TextLaws.{five_pieces}
-use Rattle.ffc.proofs.output.push_header.Goals as goal
+use Rattle.answers.proofs.TextLaws.{five_pieces}
+use Rattle.answers.proofs.matrix_text.push_header.Goals as goal
 
 pub returns : goal.returns
 returns c =

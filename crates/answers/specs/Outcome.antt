@@ -5,9 +5,9 @@ use Rattle.mesh_in.specs.declared.refusal.MeshKind.TheVariants as kind
 use Rattle.mesh_in.specs.declared.refusal.MeshRefusal.{MeshRefusal}
 use Rattle.assembly.specs.declared.refusal.RunRefusal.{RunRefusal}
 use Rattle.assembly.specs.declared.refusal.RunRefusal.TheVariants as run
-use Rattle.ffc.specs.declared.outcome.Spot.TheVariants as spot
-use Rattle.ffc.specs.declared.outcome.Outcome.{Outcome}
-use Rattle.ffc.specs.declared.outcome.Outcome.TheVariants.{Done, Usage, Form, Mesh, Passed, ReadFault, WriteFault, Memory}
+use Rattle.answers.specs.declared.outcome.Spot.TheVariants as spot
+use Rattle.answers.specs.declared.outcome.Outcome.{Outcome}
+use Rattle.answers.specs.declared.outcome.Outcome.TheVariants.{Done, Usage, Form, Mesh, Passed, ReadFault, WriteFault, Memory}
 
 abbrev pub status_of : Outcome → ℕ
 status_of Done = 0

@@ -1,7 +1,7 @@
 //! The text of a matrix.
 ghost use Rattle.std.specs.Prelude.{◌≡◌, ◌++◌, map, decimal, OnOk};
 ghost use Rattle.assembly.specs.Kept.{seen};
-ghost use Rattle.ffc.specs.Text.{entry_line, header_line, matrix_text};
+ghost use Rattle.answers.specs.MatrixText.{entry_line, header_line, matrix_text};
 
 use assembly::Triple;
 use itoa::Buffer;

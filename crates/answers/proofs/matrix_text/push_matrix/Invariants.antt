@@ -1,8 +1,8 @@
 use Rattle.std.proofs.Common.{◌≡◌, ◌++◌, map, drop}
 use Rattle.std.specs.List.{flat_map}
 use Rattle.assembly.specs.Kept.{seen}
-use Rattle.ffc.specs.Text.{entry_line, matrix_text}
-use Rattle.ffc.proofs.output.push_matrix.Given as goal
+use Rattle.answers.specs.MatrixText.{entry_line, matrix_text}
+use Rattle.answers.proofs.matrix_text.push_matrix.Given as goal
 
 -- the lines so far and those that are left are all
 abbrev pub invariant-loop-triple : goal.invariant-loop-triple

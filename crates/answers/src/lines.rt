@@ -3,7 +3,7 @@ ghost use Rattle.std.specs.Prelude.{◌≡◌, ◌≢◌, List, OnOk, OnErr};
 ghost use Rattle.std.specs.List.{flat_map};
 ghost use Rattle.ends.specs.Count.{Rises};
 ghost use Rattle.ends.specs.Told.{appended, TakesPrefix};
-ghost use Rattle.ffc.specs.Lines.{part_text, line_of, spot_line, refusal_line, form_refusal, mesh_refusal, mesh_place, mesh_number, Says};
+ghost use Rattle.answers.specs.Lines.{part_text, line_of, spot_line, refusal_line, form_refusal, mesh_refusal, mesh_place, mesh_number, Says};
 
 use crate::outcome::{FormKind, Outcome, Spot};
 use ends::sink::{Sink, SinkFault};

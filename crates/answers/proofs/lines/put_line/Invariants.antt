@@ -1,7 +1,7 @@
 use Rattle.std.proofs.Common.{drop}
 use Rattle.std.specs.List.{flat_map}
-use Rattle.ffc.specs.Lines.{part_text, PutsAfter}
-use Rattle.ffc.proofs.lines.put_line.Given as goal
+use Rattle.answers.specs.Lines.{part_text, PutsAfter}
+use Rattle.answers.proofs.lines.put_line.Given as goal
 
 -- what is put from here on comes behind what was put so far
 abbrev pub invariant-loop-part : goal.invariant-loop-part

@@ -1,6 +1,6 @@
 use Rattle.std.proofs.lemmas.Result.{err_from_is_err_and}
-use Rattle.ffc.proofs.SinkLaws.{parts_more, parts_prefix}
-use Rattle.ffc.proofs.lines.put_line.Goals as goal
+use Rattle.answers.proofs.SinkLaws.{parts_more, parts_prefix}
+use Rattle.answers.proofs.lines.put_line.Goals as goal
 
 pub returns-in_err-put_part-clause-prefix : goal.returns-in_err-put_part-clause-prefix
 returns-in_err-put_part-clause-prefix g c =

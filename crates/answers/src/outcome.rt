@@ -1,7 +1,7 @@
 //! How a run of the program ends.
 ghost use Rattle.std.specs.Prelude.{◌≡◌};
-ghost use Rattle.ffc.specs.Outcome.{status_of};
-ghost use Rattle.ffc.specs.declared.outcome.Outcome.TheVariants.{Memory, Mesh};
+ghost use Rattle.answers.specs.Outcome.{status_of};
+ghost use Rattle.answers.specs.declared.outcome.Outcome.TheVariants.{Memory, Mesh};
 
 use assembly::RunRefusal;
 use mesh_in::{MeshKind, MeshRefusal};
@@ -77,7 +77,7 @@ impl From<AllocError> for Outcome {
 }
 
 impl From<MeshRefusal> for Outcome {
-    ghost use Rattle.ffc.specs.Outcome.{mesh_outcome};
+    ghost use Rattle.answers.specs.Outcome.{mesh_outcome};
 
     ghost from_gives = { λ r o. o ≡ mesh_outcome r };
 
@@ -90,7 +90,7 @@ impl From<MeshRefusal> for Outcome {
 }
 
 impl From<RunRefusal> for Outcome {
-    ghost use Rattle.ffc.specs.Outcome.{run_outcome};
+    ghost use Rattle.answers.specs.Outcome.{run_outcome};
 
     ghost from_gives = { λ r o. o ≡ run_outcome r };
 

@@ -1,19 +1,19 @@
 -- The line on err for each outcome
 use Rattle.std.specs.Prelude.{◌≡◌, ℕ, List, [], ◌∷◌, ◌++◌, Option, codes, decimal, ◌⊎◌}
-use Rattle.ffc.specs.Text.{joined}
+use Rattle.answers.specs.MatrixText.{joined}
 use Rattle.ends.specs.Count.{Rises}
 use Rattle.ends.specs.Told.{appended, TakesPrefix}
 use Rattle.mesh_in.specs.declared.refusal.MeshKind.{MeshKind}
 use Rattle.mesh_in.specs.declared.refusal.MeshKind.TheVariants as mesh
 use Rattle.mesh_in.specs.declared.refusal.MeshRefusal.{MeshRefusal}
-use Rattle.ffc.specs.declared.outcome.FormKind.{FormKind}
-use Rattle.ffc.specs.declared.outcome.FormKind.TheVariants as form
-use Rattle.ffc.specs.declared.outcome.Spot.{Spot}
-use Rattle.ffc.specs.declared.outcome.Spot.TheVariants as spot
-use Rattle.ffc.specs.declared.outcome.Outcome.{Outcome}
-use Rattle.ffc.specs.declared.outcome.Outcome.TheVariants.{Done, Usage, Form, Mesh, Passed, ReadFault, WriteFault, Memory}
-use Rattle.ffc.specs.declared.lines.Part.{Part}
-use Rattle.ffc.specs.declared.lines.Part.TheVariants as part
+use Rattle.answers.specs.declared.outcome.FormKind.{FormKind}
+use Rattle.answers.specs.declared.outcome.FormKind.TheVariants as form
+use Rattle.answers.specs.declared.outcome.Spot.{Spot}
+use Rattle.answers.specs.declared.outcome.Spot.TheVariants as spot
+use Rattle.answers.specs.declared.outcome.Outcome.{Outcome}
+use Rattle.answers.specs.declared.outcome.Outcome.TheVariants.{Done, Usage, Form, Mesh, Passed, ReadFault, WriteFault, Memory}
+use Rattle.answers.specs.declared.lines.Part.{Part}
+use Rattle.answers.specs.declared.lines.Part.TheVariants as part
 
 abbrev pub part_text : Part → List ℕ
 part_text (part.Text text) = text.now

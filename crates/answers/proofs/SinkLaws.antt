@@ -4,8 +4,8 @@ use Rattle.std.specs.List.{flat_map}
 use Rattle.std.proofs.Math.Seq.{take-append-add}
 use Rattle.std.proofs.lemmas.List.{take-append-le}
 use Rattle.ends.specs.Told.{appended, TakesPrefix}
-use Rattle.ffc.specs.Lines.{PutsAfter, part_text}
-use Rattle.ffc.specs.declared.lines.Part.{Part}
+use Rattle.answers.specs.Lines.{PutsAfter, part_text}
+use Rattle.answers.specs.declared.lines.Part.{Part}
 
 pub appended_twice : (told : Option (List ℕ)) (a b : List ℕ) → appended (appended told a) b ≡ appended told (a ++ b)
 appended_twice None a b = refl
