@@ -1,8 +1,16 @@
 pub mod CoefficientSums
+pub mod Cells
 pub mod Elements
+pub mod EntrySums
 pub mod FormValuesLaws
+pub mod LinearForms
 pub mod Lists
 pub mod LocalPlaces
+pub mod MassLaws
+pub mod Parameters
 pub mod RowLaws
 pub mod RowSums
 pub mod ShareLaws
+pub mod Starts
+pub mod TriplesLaws
+pub mod Vanishing

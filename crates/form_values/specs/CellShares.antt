@@ -40,5 +40,4 @@ pub record HasShares (p : Problem) (o : Occurring) (tensor : CellOf → List Fra
   pub shares : tensor k ≡ shares_on p o k
 
 abbrev pub HaveShares : Problem → Occurring → (CellOf → List Fraction) → Type 0
-HaveShares p o tensor = (n : ℕ) (vertices : List ℕ) → IsIn (cell_of_mesh p.mesh n vertices) p
-    → HasShares p o tensor (cell_of_mesh p.mesh n vertices)
+HaveShares p o tensor = (k : CellOf) → IsIn k p → HasShares p o tensor k

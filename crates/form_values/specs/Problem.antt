@@ -31,6 +31,11 @@ corners_of m vertices = map (λ v. point_of (slice_index_or m.points v [])) vert
 abbrev pub cell_of_mesh : MeshData Fraction → ℕ → List ℕ → CellOf
 cell_of_mesh m n vertices = record { number = n; vertices = vertices; corners = corners_of m vertices }
 
+-- k is a cell of the mesh
+pub record IsIn (k : CellOf) (p : Problem) : Type 0 where
+  pub vertices : slice_get p.mesh.cells k.number ≡ Some k.vertices
+  pub corners : k.corners ≡ corners_of p.mesh k.vertices
+
 -- the marker of cell n
 abbrev pub marker_of : MeshData Fraction → ℕ → ℕ
 marker_of m n = 0
@@ -53,7 +58,3 @@ labels_of p e = labels_in p.mesh (space_in p e)
 abbrev pub row_count : Problem → Option ℕ → ℕ
 row_count p None = 1
 row_count p (Some e) = length (labels_of p (Some e))
-
--- ---- cells of the mesh
-abbrev pub IsIn : CellOf → Problem → Type 0
-IsIn k p = slice_get p.mesh.cells k.number ≡ Some k.vertices
