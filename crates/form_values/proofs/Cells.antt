@@ -1,10 +1,10 @@
 -- The corners of a cell of a mesh: its dimension, and the coordinates of space on it
-use Rattle.std.proofs.Common.{◌≡◌, ℕ, zero, suc, ◌+◌, ◌<◌, ◌≤◌, inr, Bool, true, false, List, [], ◌∷◌, length, nat_lt, Option, None, Some, if◌then◌else◌, refl, sym, ap, ◌∙◌, subst, arith}
+use Rattle.std.proofs.Common.{◌≡◌, ℕ, zero, suc, ◌+◌, ◌<◌, ◌≤◌, inr, Bool, true, false, [], ◌∷◌, length, nat_lt, Some, if◌then◌else◌, refl, ap, ◌∙◌, arith}
 use Rattle.std.proofs.lemmas.Bool.Decides.{nat_tests}
 use Rattle.std.proofs.lemmas.List.{length-map}
 use Rattle.algebra.specs.Fraction.{is_zero_fraction}
 use Rattle.calculus.specs.Polynomial.{nil, coordinate}
-use Rattle.calculus.specs.Simplex.{Simplex, IsCell, dimension as simplex_dimension, volume, point_of}
+use Rattle.calculus.specs.Simplex.{Simplex, IsCell, dimension as simplex_dimension, volume}
 use Rattle.spaces.specs.declared.cell.Cell.{Cell}
 use Rattle.spaces.specs.declared.cell.Cell.TheVariants.{Interval, Triangle, Tetrahedron}
 use Rattle.spaces.specs.Cell.{dimension}
@@ -16,7 +16,7 @@ use Rattle.dofs.specs.Basis.{CellOf}
 use Rattle.refint.specs.Local.{position_part, position_value}
 use Rattle.refint.proofs.Vertices.{position_is}
 use Rattle.form_values.specs.FormValue.{coordinate_value}
-use Rattle.form_values.specs.Problem.{Problem, IsIn, corners_of}
+use Rattle.form_values.specs.Problem.{Problem, IsIn}
 use Rattle.form_values.proofs.Starts.{cell_is}
 
 -- ---- dimensions

@@ -3,10 +3,14 @@ pub mod Cells
 pub mod Elements
 pub mod EntrySums
 pub mod FormValuesLaws
+pub mod Layouts
 pub mod LinearForms
 pub mod Lists
 pub mod LocalPlaces
+pub mod MassCase
+pub mod MassEntries
 pub mod MassLaws
+pub mod MassRows
 pub mod Parameters
 pub mod RowLaws
 pub mod RowSums

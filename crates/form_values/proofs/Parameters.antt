@@ -1,9 +1,9 @@
 -- Which variables occur in the functions on a cell: those of its dimension, and no parameter
-use Rattle.std.proofs.Common.{◌≡◌, ℕ, zero, suc, ◌+◌, ◌<◌, ◌≤◌, Bool, true, false, ◌==◌, List, [], ◌∷◌, nat_lt, slice_get, Option, None, Some, if◌then◌else◌, refl, sym, ap, ◌∙◌, subst, arith}
+use Rattle.std.proofs.Common.{◌≡◌, ℕ, ◌<◌, ◌≤◌, Bool, true, false, ◌==◌, List, [], ◌∷◌, nat_lt, slice_get, Option, None, Some, if◌then◌else◌, refl, sym, ap, ◌∙◌, subst, arith}
 use Rattle.std.proofs.lemmas.Bool.Decides.{nat_tests}
 use Rattle.algebra.specs.Fraction.{Fraction}
 use Rattle.calculus.specs.LocalFunction.{lies_on, weights_of, local_function, label_function}
-use Rattle.calculus.specs.Polynomial.{Polynomial, nil, times, constant, coordinate, whole}
+use Rattle.calculus.specs.Polynomial.{nil, constant, coordinate, whole}
 use Rattle.calculus.specs.Simplex.{IsCell, dimension as simplex_dimension}
 use Rattle.calculus.proofs.PolynomialLaws.{IsFree, derivative-coordinate, constant-zero}
 use Rattle.spaces.specs.declared.cell.Cell.{Cell}

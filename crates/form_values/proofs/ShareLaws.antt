@@ -1,5 +1,5 @@
 -- From the runs of the planned function on the cells to the values of the form
-use Rattle.std.proofs.Common.{◌≡◌, ◌≢◌, ℕ, zero, suc, ◌<◌, Bool, true, false, not, ◌||◌, ◌&&◌, refl, sym, ◌∙◌, ap, ap₂, subst, arith, List, [], ◌∷◌, ◌++◌, length, map, take, ltb-true, nat_lt, Option, Some, None, if◌then◌else◌}
+use Rattle.std.proofs.Common.{◌≡◌, ◌≢◌, ℕ, zero, suc, ◌<◌, ◌≤◌, Bool, true, false, not, ◌||◌, ◌&&◌, refl, sym, ◌∙◌, ap, ap₂, subst, arith, List, [], ◌∷◌, ◌++◌, length, map, take, ltb-true, nat_lt, Option, Some, None, if◌then◌else◌}
 use Rattle.std.specs.Prelude.{slice_index_or, ◌==◌, IsSome}
 use Rattle.std.specs.List.{list_any, flat_map, AllByRecursion}
 use Rattle.std.proofs.lemmas.List.{length-map}
@@ -21,7 +21,9 @@ use Rattle.c_unit.specs.declared.unit.Op.{Op}
 use Rattle.ratio.specs.declared.reduced.Ratio.{Ratio}
 use Rattle.ratio.specs.Value.{fraction_of}
 use Rattle.spaces.specs.Cell.{dimension}
-use Rattle.mesh_in.specs.MeshData.{MeshData, IsCell, is_distinct, fractions}
+use Rattle.mesh_in.specs.MeshData.{MeshData, IsMesh, IsCell, is_distinct, fractions, most}
+use Rattle.spaces.specs.declared.cell.Cell.TheVariants.{Interval}
+use Rattle.algebra.specs.Sums.{total}
 use Rattle.assembly.specs.Rows.{has_vertex, row_of}
 use Rattle.assembly.specs.Sums.{Entry, AreSums, PassesFirst, added, values_at, entry_at}
 use Rattle.assembly.specs.Local.{local_entries}
@@ -101,7 +103,7 @@ outcome_at : (f : CFun) (c : Fraction) → IsPlanned f c → (mesh : MeshData Fr
 outcome_at f c planned mesh a b line h k = ap (λ xs. outcome (ran f xs [])) (ends_are mesh a b line h k) ∙ planned _ _
 
 -- ---- one cell
-simplex_is : (mesh : MeshData Fraction) (a b : ℕ) → OnLine mesh → a < length mesh.points → b < length mesh.points
+pub simplex_is : (mesh : MeshData Fraction) (a b : ℕ) → OnLine mesh → a < length mesh.points → b < length mesh.points
     → simplex_of mesh (a ∷ b ∷ []) ≡ interval (end_of mesh (a ∷ b ∷ []) 0) (end_of mesh (a ∷ b ∷ []) 1)
 simplex_is mesh a b line h k =
     ap₂ (λ p q. point_of p ∷ point_of q ∷ []) (first_item (slice_index_or mesh.points a []) (line a h)) (first_item (slice_index_or mesh.points b []) (line b k))
@@ -141,23 +143,23 @@ distinct_apart a b h e = go (eqb b a) (eq-eqb b a (sym e)) (and_parts (not ((b =
     go true k i = cc
     go false k i = cc
 
-abbrev IsMember : {A : Type 0} → List A → A → Type 0
+abbrev pub IsMember : {A : Type 0} → List A → A → Type 0
 IsMember {A = A} xs x = (p : A → Bool) → p x ≡ true → list_any p xs ≡ true
 
-or_right : (s t : Bool) → t ≡ true → (s || t) ≡ true
+pub or_right : (s t : Bool) → t ≡ true → (s || t) ≡ true
 or_right true t h = refl
 or_right false t h = h
 
-weaker : {A : Type 0} (P Q : A → Type 0) (xs : List A) → ((x : A) → P x → Q x) → AllByRecursion P xs → AllByRecursion Q xs
+pub weaker : {A : Type 0} (P Q : A → Type 0) (xs : List A) → ((x : A) → P x → Q x) → AllByRecursion P xs → AllByRecursion Q xs
 weaker P Q [] f h = h
 weaker P Q (x ∷ xs) f h = (f x h.0, weaker P Q xs f h.1)
 
-all_members : {A : Type 0} (xs : List A) → AllByRecursion (IsMember xs) xs
+pub all_members : {A : Type 0} (xs : List A) → AllByRecursion (IsMember xs) xs
 all_members [] = tt
 all_members (x ∷ xs) =
     (λ p h. ap (λ t. t || list_any p xs) h, weaker (IsMember xs) (IsMember (x ∷ xs)) xs (λ y h p k. or_right (p x) (list_any p xs) (h p k)) (all_members xs))
 
-both : {A : Type 0} (P Q R : A → Type 0) (xs : List A) → ((x : A) → P x → Q x → R x) → AllByRecursion P xs → AllByRecursion Q xs → AllByRecursion R xs
+pub both : {A : Type 0} (P Q R : A → Type 0) (xs : List A) → ((x : A) → P x → Q x → R x) → AllByRecursion P xs → AllByRecursion Q xs → AllByRecursion R xs
 both P Q R [] f h k = h
 both P Q R (x ∷ xs) f h k = (f x h.0 k.0, both P Q R xs f h.1 k.1)
 
@@ -165,7 +167,7 @@ no_size : (n : ℕ) → suc (suc (suc n)) ≡ 2 → ⊥
 no_size n h = omega arith
 
 -- what holds of two vertices of the mesh that are apart holds of a cell
-by_ends : (P : List ℕ → Type 0) (count : ℕ) → ((a b : ℕ) → a ≢ b → a < count → b < count → P (a ∷ b ∷ [])) → (cell : List ℕ) → IsCell 1 count cell → P cell
+pub by_ends : (P : List ℕ → Type 0) (count : ℕ) → ((a b : ℕ) → a ≢ b → a < count → b < count → P (a ∷ b ∷ [])) → (cell : List ℕ) → IsCell 1 count cell → P cell
 by_ends P count h [] cell = absurd (omega arith)
 by_ends P count h (a ∷ []) cell = absurd (omega arith)
 by_ends P count h (a ∷ b ∷ []) cell =
@@ -182,15 +184,19 @@ adds_integrals mesh c line cell is member =
     (cell_shares mesh c (a ∷ b ∷ [])) (shares_at mesh c a b line h k))
     cell is member
 
--- the sums of the shares of the cells are the values of the form
+-- the shares of the cells add up to the values of the form
+pub share_values : (mesh : MeshData Fraction) (c : Fraction) → OnLine mesh → AllByRecursion (IsCell 1 (length mesh.points)) mesh.cells
+    → (row col : ℕ) → total (values_at (share_entries mesh c) row col) ≡ form_value mesh c row col
+unfolding form_value
+share_values mesh c line cells row col =
+    all_cells_sum mesh c (cell_shares mesh c) mesh.cells (both (IsCell 1 (length mesh.points)) (IsMember mesh.cells) (AddsIntegrals mesh c (cell_shares mesh c)) mesh.cells (adds_integrals mesh c line) cells (all_members mesh.cells)) row col
+
 pub share_triples : (mesh : MeshData Fraction) (c : Fraction) → OnLine mesh → AllByRecursion (IsCell 1 (length mesh.points)) mesh.cells
     → (triples : List Entry) → AreSums (share_entries mesh c) triples → AreTriples mesh c triples
-unfolding form_value
 share_triples mesh c line cells triples sums = record {
   ordered = sums.ordered;
   nonzero = sums.nonzero;
-  exact = λ row col. added_is_total _ _ (sums.exact row col)
-      ∙ all_cells_sum mesh c (cell_shares mesh c) mesh.cells (both (IsCell 1 (length mesh.points)) (IsMember mesh.cells) (AddsIntegrals mesh c (cell_shares mesh c)) mesh.cells (adds_integrals mesh c line) cells (all_members mesh.cells)) row col;
+  exact = λ row col. added_is_total _ _ (sums.exact row col) ∙ share_values mesh c line cells row col;
 }
 
 -- ---- the runs
@@ -300,17 +306,31 @@ module _ (f : CFun) (c : Fraction) (planned : IsPlanned f c) (mesh : MeshData Fr
   refuses refusal.Memory h = tt
 
 -- ---- meshes of intervals
-on_line_at : (points : List (List Ratio)) (v : ℕ) → v < length points → AllByRecursion (λ p. length p ≡ 1) points → length (slice_index_or (map (map fraction_of) points) v []) ≡ 1
-on_line_at [] v h all = absurd (omega arith)
-on_line_at (p ∷ points) zero h all = length-map p fraction_of ∙ all.0
-on_line_at (p ∷ points) (suc v) h all = on_line_at points v (omega arith) all.1
+mapped_points : (d : ℕ) (points : List (List Ratio)) → AllByRecursion (λ p. length p ≡ d) points → AllByRecursion (λ p. length p ≡ d) (map (map fraction_of) points)
+mapped_points d [] all = tt
+mapped_points d (p ∷ points) all = (length-map p fraction_of ∙ all.0, mapped_points d points all.1)
+
+-- what is a mesh in memory is one by its values
+pub mesh_of_values : (m : MeshData Ratio) → IsMesh m → IsMesh (fractions m)
+mesh_of_values m is =
+    let same : length m.points ≡ length (fractions m).points = sym (length-map m.points (map fraction_of)) in
+    record {
+      points = mapped_points (dimension m.kind) m.points is.points;
+      cells = subst (λ n. AllByRecursion (IsCell (dimension m.kind) n) m.cells) same is.cells;
+      few_points = subst (λ n. n ≤ most) same is.few_points;
+      few_cells = is.few_cells;
+    }
+
+pub line_of_mesh : (m : MeshData Fraction) → m.kind ≡ Interval → IsMesh m → OnLine m
+line_of_mesh m kind is v h =
+    item_of (λ (p : List Fraction). length p ≡ 1) m.points v [] h
+    (subst (λ (d : ℕ). AllByRecursion (λ (p : List Fraction). length p ≡ d) m.points) (ap dimension kind) is.points)
+
+pub ends_of_mesh : (m : MeshData Fraction) → m.kind ≡ Interval → IsMesh m → AllByRecursion (IsCell 1 (length m.points)) m.cells
+ends_of_mesh m kind is = subst (λ (d : ℕ). AllByRecursion (IsCell d (length m.points)) m.cells) (ap dimension kind) is.cells
 
 pub on_line : (m : MeshData Ratio) → IsIntervalMesh m → OnLine (fractions m)
-on_line m is v h =
-    let all : AllByRecursion (λ (p : List Ratio). length p ≡ 1) m.points = subst (λ (d : ℕ). AllByRecursion (λ (p : List Ratio). length p ≡ d) m.points) (ap dimension is.0) is.1.points in
-    on_line_at m.points v (subst (λ n. v < n) (length-map m.points (map fraction_of)) h) all
+on_line m is = line_of_mesh (fractions m) is.0 (mesh_of_values m is.1)
 
 pub cells_in : (m : MeshData Ratio) → IsIntervalMesh m → AllByRecursion (IsCell 1 (length (fractions m).points)) (fractions m).cells
-cells_in m is =
-    let all : AllByRecursion (IsCell 1 (length m.points)) m.cells = subst (λ (d : ℕ). AllByRecursion (IsCell d (length m.points)) m.cells) (ap dimension is.0) is.1.cells in
-    subst (λ n. AllByRecursion (IsCell 1 n) m.cells) (sym (length-map m.points (map fraction_of))) all
+cells_in m is = ends_of_mesh (fractions m) is.0 (mesh_of_values m is.1)

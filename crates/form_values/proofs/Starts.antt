@@ -1,5 +1,5 @@
 -- On a cell, the environment of two rows is that of their local nodes, but for the position
-use Rattle.std.proofs.Common.{arith, ◌≡◌, ℕ, zero, suc, ◌+◌, Bool, true, false, ◌==◌, List, [], ◌∷◌, ◌++◌, length, map, slice_get, slice_index_or, Option, None, Some, if◌then◌else◌, refl, sym, ap, ap₂, ◌∙◌, eqb-true, append_assoc, length-append, suc-add, zero-add}
+use Rattle.std.proofs.Common.{◌≡◌, ℕ, zero, suc, ◌+◌, Bool, true, false, ◌==◌, List, [], ◌∷◌, ◌++◌, length, map, slice_get, slice_index_or, Option, None, Some, if◌then◌else◌, refl, sym, ap, ap₂, ◌∙◌, eqb-true, append_assoc, length-append, suc-add, zero-add}
 use Rattle.std.proofs.Math.Path.{fun_ext}
 use Rattle.std.specs.List.{AllByRecursion}
 use Rattle.std.specs.List.Sorted.{IsStrictlySortedBy}
@@ -11,7 +11,7 @@ use Rattle.spaces.specs.declared.cell.Cell.{Cell}
 use Rattle.spaces.specs.Cell.{dimension}
 use Rattle.spaces.specs.Scalar.{Scalar}
 use Rattle.spaces.specs.Space.{Space, scalars}
-use Rattle.mesh_in.specs.MeshData.{MeshData, IsMesh}
+use Rattle.mesh_in.specs.MeshData.{IsMesh}
 use Rattle.dofs.specs.Label.{Label}
 use Rattle.dofs.specs.Order.{label_cmp, place}
 use Rattle.dofs.specs.Parts.{IsOn}
@@ -24,7 +24,7 @@ use Rattle.ufl_tree.specs.declared.function.Role.TheVariants.{Test, Trial, Posit
 use Rattle.dofs.specs.Basis.{CellOf}
 use Rattle.monos.specs.declared.layout.CoefPlace.{CoefPlace}
 use Rattle.refint.specs.Local.{argument_value, part_value, coefficient_value, local_value, local, position_part, position_value}
-use Rattle.form_values.specs.Problem.{Problem, corners_of, space_in, labels_in, labels_of, marker_of, IsIn}
+use Rattle.form_values.specs.Problem.{Problem, space_in, labels_in, labels_of, marker_of, IsIn}
 use Rattle.form_values.specs.FormValue.{row_value, rows_value, start_value, start}
 use Rattle.monos.specs.Layout.{value_count}
 use Rattle.form_values.specs.CellLayout.{parts_of, labels_on, rows_on, argument_rows, coefficient_space, coefficient_values, values_on, places_from, layout_of, is_among, IsElementOf, Fits, Occurring}

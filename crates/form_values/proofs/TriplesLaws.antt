@@ -26,10 +26,8 @@ use Rattle.ufl_meaning.specs.Monomial.{HasNoOffset}
 use Rattle.dofs.proofs.NodeLabels.{distinct_local}
 use Rattle.dofs.proofs.Lists.{suc-moves, same_some, IsDistinct, distinct_map}
 use Rattle.std.proofs.Math.Path.{fun_ext}
-use Rattle.algebra.specs.Fraction.{is_zero_fraction}
 use Rattle.calculus.specs.Integral.{integral_value}
 use Rattle.calculus.specs.Polynomial.{Polynomial, nil}
-use Rattle.calculus.specs.Simplex.{volume}
 use Rattle.spaces.specs.Cell.{dimension}
 use Rattle.monos.specs.Layout.{position_parts}
 use Rattle.ufl_tree.specs.declared.function.Role.TheVariants.{Position}
@@ -37,7 +35,7 @@ use Rattle.refint.specs.Local.{count_in, entries_of, local_share, local_shares, 
 use Rattle.refint.proofs.LocalLaws.{local_only_used}
 use Rattle.refint.proofs.SharesLaw.{integral_nil}
 use Rattle.form_values.specs.CellLayout.{Occurring, parts_of, labels_on, rows_on, argument_rows, values_on, layout_of, IsElementOf, Fits}
-use Rattle.form_values.specs.CellShares.{density_on, tensor_entries, shares_on, cell_entries, entries_from, HaveShares}
+use Rattle.form_values.specs.CellShares.{density_on, tensor_entries, shares_on, cell_entries, entries_from, IsWhole, HaveShares}
 use Rattle.form_values.specs.FormValue.{coordinate_value, is_in_range, share_value, row_value, start, cell_value, cells_value, form_value, AreTriples}
 use Rattle.form_values.specs.Linear.{with_components, IsLinearWhere, IsMultilinear}
 use Rattle.form_values.specs.Problem.{Problem, cell_of_mesh, marker_of, space_in, labels_in, labels_of, row_count, IsIn}
@@ -47,10 +45,6 @@ use Rattle.form_values.proofs.EntrySums.{up, below_is_up, total_at-append, picke
 use Rattle.form_values.proofs.Parameters.{start_only_used}
 use Rattle.form_values.proofs.Starts.{cell_is, rows_are, label_at, parts_on, position_on, local_on, start_at_nodes}
 use Rattle.form_values.proofs.Vanishing.{own_components, linear_vanishes, no_local_node}
-
--- where the position occurs, the cell isn't flat
-abbrev pub IsWhole : Occurring → CellOf → Type 0
-IsWhole o k = o.position ≡ true → is_zero_fraction (volume k.corners) ≡ false
 
 abbrev pub AreWhole : Problem → Occurring → Type 0
 AreWhole p o = (k : CellOf) → IsIn k p → IsWhole o k

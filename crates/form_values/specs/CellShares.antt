@@ -34,10 +34,15 @@ entries_from p tensor n (vertices ∷ cells) =
 abbrev pub tensor_entries : Problem → (CellOf → List Fraction) → List Entry
 tensor_entries p tensor = entries_from p tensor 0 p.mesh.cells
 
--- each cell's local tensor is its shares; where the position occurs, the cell isn't flat
+-- where the position occurs, the cell isn't flat: its values at the vertices then give the coordinates
+abbrev pub IsWhole : Occurring → CellOf → Type 0
+IsWhole o k = o.position ≡ true → is_zero_fraction (volume k.corners) ≡ false
+
+-- the local tensor of a cell is its shares
 pub record HasShares (p : Problem) (o : Occurring) (tensor : CellOf → List Fraction) (k : CellOf) : Type 0 where
-  pub whole : o.position ≡ true → is_zero_fraction (volume k.corners) ≡ false
+  pub whole : IsWhole o k
   pub shares : tensor k ≡ shares_on p o k
 
+-- that of each cell
 abbrev pub HaveShares : Problem → Occurring → (CellOf → List Fraction) → Type 0
 HaveShares p o tensor = (k : CellOf) → IsIn k p → HasShares p o tensor k

@@ -1,5 +1,5 @@
 -- Forms that are linear in a function, and forms that a function does not occur in
-use Rattle.std.specs.Prelude.{◌≡◌, ℕ, Bool, true, false, Option, None, Some, if◌then◌else◌}
+use Rattle.std.specs.Prelude.{◌≡◌, ℕ, false, Option, None, Some, if◌then◌else◌}
 use Rattle.algebra.specs.Fraction.{Fraction}
 use Rattle.calculus.specs.Polynomial.{Polynomial, plus, times, constant}
 use Rattle.ufl_tree.specs.declared.function.Role.{Role}

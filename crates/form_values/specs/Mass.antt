@@ -1,5 +1,5 @@
 -- The form c*u*v*dx of two scalar functions, and its problem for the linear element on intervals
-use Rattle.std.specs.Prelude.{ℕ, false, List, [], ◌∷◌, Some}
+use Rattle.std.specs.Prelude.{ℕ, false, [], ◌∷◌, Some}
 use Rattle.algebra.specs.Fraction.{Fraction}
 use Rattle.ratio.specs.declared.reduced.Ratio.{Ratio}
 use Rattle.spaces.specs.declared.cell.Cell.{Cell}
@@ -11,7 +11,7 @@ use Rattle.ufl_tree.specs.declared.function.On.TheVariants.{All}
 use Rattle.ufl_tree.specs.declared.function.Role.TheVariants.{Test, Trial}
 use Rattle.ufl_tree.specs.declared.tree.Op2.TheVariants.{Product}
 use Rattle.ufl_tree.specs.FormTerm.{FormTerm, integral}
-use Rattle.ufl_tree.specs.Typed.{Kind, Typed, number, function, two}
+use Rattle.ufl_tree.specs.Typed.{Kind, number, function, two}
 use Rattle.form_values.specs.CellLayout.{Occurring}
 use Rattle.form_values.specs.Problem.{Problem}
 
