@@ -5,8 +5,9 @@ ghost use Rattle.std.specs.List.{AllByRecursion};
 ghost use Rattle.std.specs.Str.Lines.{lines};
 ghost use Rattle.algebra.specs.Fraction.{Fraction};
 ghost use Rattle.spaces.specs.Cell.{dimension};
+ghost use Rattle.mesh_in.specs.CellLine.{cell_size, IsCellLine};
 ghost use Rattle.mesh_in.specs.Line.{words};
-ghost use Rattle.mesh_in.specs.MeshData.{MeshData, IsCell, fractions, rows, most};
+ghost use Rattle.mesh_in.specs.MeshData.{MeshData, fractions, rows, most};
 ghost use Rattle.mesh_in.specs.MeshGrammar.{IsMeshText, IsRefused};
 ghost use Rattle.mesh_in.specs.MeshText.{longest, nothing, begun, header_of, after_header, reading, meaning};
 ghost use Rattle.mesh_in.specs.Refusal.{out_of_memory};
@@ -58,20 +59,20 @@ fn read_points(
     Ok(coordinates)
 }
 
-// The vertices of all cells.
+// The numbers of all cells: their vertices and markers.
 fn read_cells(alloc: Global, lines: &mut Lines<'_>, header: Header) -> Result<Vec<u32>, MeshRefusal>
-    ensures fit { IfOk result (λ v. length v.items ≡ header.cells * (dimension header.kind + 1)) }
-    ensures cells { IfOk result (λ v. AllByRecursion (IsCell (dimension header.kind) header.vertices) (rows (dimension header.kind + 1) header.cells v.items)) }
+    ensures fit { IfOk result (λ v. length v.items ≡ header.cells * cell_size header) }
+    ensures cells { IfOk result (λ v. AllByRecursion (IsCellLine header) (rows (cell_size header) header.cells v.items)) }
     ensures ok { IfOk result (λ v. (points : List (List Fraction)) → length points ≡ header.vertices →
-        remaining lines.old (begun header points []) ≡ remaining lines.new (begun header points (rows (dimension header.kind + 1) header.cells v.items))) }
+        remaining lines.old (begun header points []) ≡ remaining lines.new (begun header points (rows (cell_size header) header.cells v.items))) }
     ensures err { IfErr result (λ e. (points : List (List Fraction)) → length points ≡ header.vertices → Fails e (remaining lines.old (begun header points []))) }
 {
-    let mut corners = Vec::new(alloc);
+    let mut numbers = Vec::new(alloc);
     'cells: for _ in 0..header.cells {
         let line = lines.row()?;
-        push_cell(&mut corners, line, header)?;
+        push_cell(&mut numbers, line, header)?;
     }
-    Ok(corners)
+    Ok(numbers)
 }
 
 fn read_lines(alloc: Global, text: &[u8]) -> Result<Mesh, MeshRefusal>
@@ -82,9 +83,9 @@ fn read_lines(alloc: Global, text: &[u8]) -> Result<Mesh, MeshRefusal>
     let line = lines.row()?;
     let header = first_row(line)?;
     let coordinates = read_points(alloc, &mut lines, header)?;
-    let corners = read_cells(alloc, &mut lines, header)?;
+    let numbers = read_cells(alloc, &mut lines, header)?;
     lines.end()?;
-    Ok(Mesh::new(header, coordinates, corners))
+    Ok(Mesh::new(header, coordinates, numbers))
 }
 
 fn read(alloc: Global, text: &[u8]) -> Result<Mesh, MeshRefusal>
