@@ -317,6 +317,7 @@ mesh_of_values m is =
     record {
       points = mapped_points (dimension m.kind) m.points is.points;
       cells = subst (λ n. AllByRecursion (IsCell (dimension m.kind) n) m.cells) same is.cells;
+      markers = is.markers;
       few_points = subst (λ n. n ≤ most) same is.few_points;
       few_cells = is.few_cells;
     }

@@ -38,7 +38,7 @@ pub record IsIn (k : CellOf) (p : Problem) : Type 0 where
 
 -- the marker of cell n
 abbrev pub marker_of : MeshData Fraction → ℕ → ℕ
-marker_of m n = 0
+marker_of m n = slice_index_or m.markers n 0
 
 -- ---- rows
 -- the element of this number
