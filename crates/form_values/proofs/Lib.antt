@@ -1,8 +1,9 @@
-pub mod CoefficientSums
 pub mod Cells
+pub mod CoefficientSums
 pub mod Elements
 pub mod EntrySums
-pub mod FormValuesLaws
+pub mod HatLaws
+pub mod IntervalMeshes
 pub mod Layouts
 pub mod LinearForms
 pub mod Lists

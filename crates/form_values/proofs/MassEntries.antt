@@ -27,7 +27,7 @@ use Rattle.form_values.specs.Mass.{mass_problem, no_others}
 use Rattle.form_values.specs.Problem.{corners_of, cell_of_mesh}
 use Rattle.form_values.specs.Shares.{end_of, cell_shares, share_entries}
 use Rattle.form_values.proofs.MassRows.{line_parts, row_is_place}
-use Rattle.form_values.proofs.ShareLaws.{OnLine, IsMember, all_members, by_ends, simplex_is, or_right}
+use Rattle.form_values.proofs.IntervalMeshes.{OnLine, IsMember, all_members, by_ends, simplex_is, or_right}
 
 -- ---- the rows of a cell
 vertex_rows : (c : Ratio) (m : MeshData Fraction) (k a b : ℕ) → m.kind ≡ Interval → AllByRecursion (IsCell 1 (length m.points)) m.cells

@@ -21,7 +21,7 @@ use Rattle.dofs.proofs.SetLaws.{Member, all_append, all_weaker, contains_from_me
 use Rattle.refint.proofs.Lists.{map_append}
 use Rattle.assembly.specs.Rows.{has_vertex, occurs, rows_below, row_of}
 use Rattle.form_values.proofs.RowLaws.{row_found, row_is}
-use Rattle.form_values.proofs.ShareLaws.{IsMember, all_members, by_ends}
+use Rattle.form_values.proofs.IntervalMeshes.{IsMember, all_members, by_ends}
 use Rattle.form_values.proofs.Starts.{label_at}
 
 abbrev pub line_element : Space

@@ -1,7 +1,7 @@
 pub mod CellLayout
 pub mod CellShares
 pub mod FormValue
-pub mod FormValues
+pub mod HatFunctions
 pub mod Linear
 pub mod Mass
 pub mod Problem

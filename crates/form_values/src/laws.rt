@@ -27,7 +27,7 @@ ghost use Rattle.assembly.specs.declared.refusal.RunRefusal.TheVariants.{Memory}
 ghost use Rattle.form_values.specs.CellLayout.{Occurring, Fits, argument_rows, layout_of, values_on};
 ghost use Rattle.form_values.specs.CellShares.{HaveShares, IsWhole, cell_entries, density_on, tensor_entries};
 ghost use Rattle.form_values.specs.FormValue.{AreTriples, form_value, share_value, start, start_value};
-ghost use Rattle.form_values.specs.FormValues as mass;
+ghost use Rattle.form_values.specs.HatFunctions.{hat_value};
 ghost use Rattle.form_values.specs.Linear.{IsMultilinear};
 ghost use Rattle.form_values.specs.Mass.{mass_problem, no_others};
 ghost use Rattle.form_values.specs.Problem.{Problem, IsIn, marker_of};
@@ -76,19 +76,18 @@ pub fn mass_case()
     ensures fits { (c : Ratio) (m : MeshData Fraction) → m.kind ≡ Interval → IsMesh m → Fits (mass_problem c m) no_others }
     ensures multilinear { (c : Ratio) (m : MeshData Fraction) → IsMultilinear (mass_problem c m) no_others }
     ensures values { (c : Ratio) (m : MeshData Fraction) → m.kind ≡ Interval → IsMesh m
-        → (row col : ℕ) → mass.form_value m (fraction_of c) row col ≡ form_value (mass_problem c m) row col }
+        → (row col : ℕ) → hat_value m (fraction_of c) row col ≡ form_value (mass_problem c m) row col }
 {}
 
-/// Where the runs of the form's function go to their ends on all cells and their values can be added up, the sums are the values of the form:
-/// sums over the cells of integrals, in physical coordinates, of the factor times the product of two basis functions. Then no cell is flat, and
-/// neither a cell nor a sum passes.
+/// Where the runs of the form's function go to their ends on all cells and their values can be added up, the sums are the values of the
+/// form `c*u*v*dx` of linear functions on intervals. Then no cell is flat, and neither a cell nor a sum passes.
 pub fn matrix()
-    ensures values { (f : CFun) (c : Fraction) → IsPlanned f c → (m : MeshData Ratio) → IsIntervalMesh m →
-        AllByRecursion (IsGood f (fractions m)) m.cells → (triples : List Entry) → AreSums (run_entries f (fractions m)) triples →
-        mass.AreTriples (fractions m) c triples }
-    ensures whole { (f : CFun) (c : Fraction) → IsPlanned f c → (m : MeshData Ratio) → IsIntervalMesh m →
-        AllByRecursion (IsGood f (fractions m)) m.cells → (triples : List Entry) → AreSums (run_entries f (fractions m)) triples →
-        HasMatrix (fractions m) c }
+    ensures values { (f : CFun) (c : Ratio) → IsPlanned f (fraction_of c) → (m : MeshData Ratio) → IsIntervalMesh m
+        → AllByRecursion (IsGood f (fractions m)) m.cells → (triples : List Entry)
+        → AreSums (run_entries f (fractions m)) triples → AreTriples (mass_problem c (fractions m)) triples }
+    ensures whole { (f : CFun) (c : Fraction) → IsPlanned f c → (m : MeshData Ratio) → IsIntervalMesh m
+        → AllByRecursion (IsGood f (fractions m)) m.cells → (triples : List Entry)
+        → AreSums (run_entries f (fractions m)) triples → HasMatrix (fractions m) c }
 {}
 
 /// Where the assembly refuses, there is no matrix of the form, for the same cell or entry; and where there is one, memory alone may be wanting.
