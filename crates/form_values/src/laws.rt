@@ -19,6 +19,7 @@ ghost use Rattle.ufl_tree.specs.declared.function.Role.{Role};
 ghost use Rattle.ufl_meaning.specs.Density.{density};
 ghost use Rattle.ufl_meaning.specs.Environment.{HasOnlyUsed};
 ghost use Rattle.ufl_meaning.specs.Monomial.{HasNoOffset};
+ghost use Rattle.assembly.specs.Rows.{row_of};
 ghost use Rattle.assembly.specs.Sums.{Entry, AreSums, values_at};
 ghost use Rattle.assembly.specs.Run.{IsGood, run_entries};
 ghost use Rattle.assembly.specs.Run as runs;
@@ -30,7 +31,7 @@ ghost use Rattle.form_values.specs.FormValue.{AreTriples, form_value, share_valu
 ghost use Rattle.form_values.specs.HatFunctions.{hat_value};
 ghost use Rattle.form_values.specs.Linear.{IsMultilinear};
 ghost use Rattle.form_values.specs.Mass.{mass_problem, no_others};
-ghost use Rattle.form_values.specs.Problem.{Problem, IsIn, marker_of};
+ghost use Rattle.form_values.specs.Problem.{Problem, IsIn, marker_of, row_count};
 ghost use Rattle.form_values.specs.Shares.{HasMatrix, Refuses, IsPlanned, IsIntervalMesh};
 
 /// Whatever makes the local tensors of the cells: where each is its cell's shares, their sums by row and column are the values of the
@@ -71,12 +72,15 @@ pub fn layout()
 {}
 
 /// The form `c*u*v*dx` of linear functions on intervals is a case of any form: it has its elements, is linear in both arguments, and
-/// its values are the sums over the cells of the integrals of c times the product of two hat functions, by vertices.
+/// its values are the sums over the cells of the integrals of c times the product of two hat functions, by vertices. Its rows are the
+/// vertices that occur in some cell.
 pub fn mass_case()
     ensures fits { (c : Ratio) (m : MeshData Fraction) → m.kind ≡ Interval → IsMesh m → Fits (mass_problem c m) no_others }
     ensures multilinear { (c : Ratio) (m : MeshData Fraction) → IsMultilinear (mass_problem c m) no_others }
     ensures values { (c : Ratio) (m : MeshData Fraction) → m.kind ≡ Interval → IsMesh m
         → (row col : ℕ) → hat_value m (fraction_of c) row col ≡ form_value (mass_problem c m) row col }
+    ensures rows { (c : Ratio) (m : MeshData Fraction) → m.kind ≡ Interval → IsMesh m
+        → row_count (mass_problem c m) (mass_problem c m).test ≡ row_of m.cells (length m.points) }
 {}
 
 /// Where the runs of the form's function go to their ends on all cells and their values can be added up, the sums are the values of the

@@ -1,7 +1,7 @@
 use Rattle.std.proofs.Common.{refl}
 use Rattle.spaces.specs.declared.cell.Cell.TheVariants.{Interval}
 use Rattle.form_values.specs.Mass.{mass_problem, no_others}
-use Rattle.form_values.proofs.MassCase.{mass_case}
+use Rattle.form_values.proofs.MassCase.{mass_case, mass_rows}
 use Rattle.form_values.proofs.MassLaws.{mass_fits, mass_is_multilinear}
 use Rattle.form_values.proofs.laws.mass_case.Goals as goal
 
@@ -13,3 +13,6 @@ returns-clause-multilinear g = λ c m. mass_is_multilinear (mass_problem c m) no
 
 pub returns-clause-values : goal.returns-clause-values
 returns-clause-values g = mass_case
+
+pub returns-clause-rows : goal.returns-clause-rows
+returns-clause-rows g = mass_rows
