@@ -176,10 +176,10 @@ cell_law p o k g h fits linear at whole row_in col_in =
 
 -- ---- all cells
 -- the cells from number n on
-abbrev Cells : Problem → ℕ → List (List ℕ) → Type 0
+abbrev pub Cells : Problem → ℕ → List (List ℕ) → Type 0
 Cells p n cells = (i : ℕ) → slice_get p.mesh.cells (n + i) ≡ slice_get cells i
 
-first : (p : Problem) (n : ℕ) (vs : List ℕ) (cells : List (List ℕ)) → Cells p n (vs ∷ cells) → IsIn (cell_of_mesh p.mesh n vs) p
+pub first : (p : Problem) (n : ℕ) (vs : List ℕ) (cells : List (List ℕ)) → Cells p n (vs ∷ cells) → IsIn (cell_of_mesh p.mesh n vs) p
 first p n vs cells are = record { vertices = ap (slice_get p.mesh.cells) (sym (add-zero n)) ∙ are 0; corners = refl }
 
 cells_law : (p : Problem) (o : Occurring) (g h : ℕ) → Fits p o → IsMultilinear p o → AreWhole p o → g < row_count p p.test → h < row_count p p.trial
@@ -249,7 +249,7 @@ unfolding share_value
 share_value_law p o k fits linear at whole g h = by_range p g h _ _ (cell_law p o k g h fits linear at whole) (cell_beyond p o k g h fits at)
 
 -- ---- the form
-from_start : (p : Problem) → Cells p 0 p.mesh.cells
+pub from_start : (p : Problem) → Cells p 0 p.mesh.cells
 from_start p i = ap (slice_get p.mesh.cells) (zero-add i)
 
 pub form_value_law : (p : Problem) (o : Occurring) → Fits p o → IsMultilinear p o → AreWhole p o → (g h : ℕ) → total (values_at (tensor_entries p (shares_on p o)) g h) ≡ form_value p g h
