@@ -18,11 +18,11 @@ use Rattle.assembly.specs.Rows.{row_of}
 use Rattle.ffc.specs.Inputs.{Loads, loads, HasForm, FormCause, HasMesh, MeshCause}
 use Rattle.ffc.specs.Assemble.{AssembleCause, IsMatrixText, values_text}
 use Rattle.ffc.specs.Answer.{AnswersWords, IsRefusal, HasCause}
-use Rattle.ffc.specs.Outcome.{run_outcome}
+use Rattle.answers.specs.Outcome.{run_outcome}
 use Rattle.ffc.specs.Words.{assemble_words}
-use Rattle.ffc.specs.Text.{matrix_text}
-use Rattle.ffc.specs.declared.outcome.Outcome.{Outcome}
-use Rattle.ffc.specs.declared.outcome.Outcome.TheVariants.{Done, Usage, Form, Mesh, Passed, ReadFault, WriteFault, Memory}
+use Rattle.answers.specs.MatrixText.{matrix_text}
+use Rattle.answers.specs.declared.outcome.Outcome.{Outcome}
+use Rattle.answers.specs.declared.outcome.Outcome.TheVariants.{Done, Usage, Form, Mesh, Passed, ReadFault, WriteFault, Memory}
 
 -- ---- causes
 

@@ -12,9 +12,9 @@ use Rattle.form_values.specs.Mass.{mass_problem}
 use Rattle.form_values.specs.Problem.{Problem, row_count}
 use Rattle.form_values.specs.Shares.{HasMatrix, Refuses}
 use Rattle.ffc.specs.Inputs.{Loads, HasForm, FormCause, HasMesh, MeshCause}
-use Rattle.ffc.specs.Outcome.{run_outcome}
-use Rattle.ffc.specs.Text.{matrix_text}
-use Rattle.ffc.specs.declared.outcome.Outcome.{Outcome}
+use Rattle.answers.specs.Outcome.{run_outcome}
+use Rattle.answers.specs.MatrixText.{matrix_text}
+use Rattle.answers.specs.declared.outcome.Outcome.{Outcome}
 
 -- with as many rows and columns as the arguments have
 abbrev pub values_text : Problem → List Entry → List ℕ

@@ -1,19 +1,19 @@
 -- The form and the mesh that the files hold, and why there is none
-use Rattle.std.specs.Prelude.{◌≡◌, ◌≢◌, ◌⊎◌, ◌<◌, ◌≤◌, ℕ, List, Option, Some, None, Ok, Err, length}
+use Rattle.std.specs.Prelude.{◌≡◌, ◌⊎◌, ◌<◌, ◌≤◌, ℕ, List, Option, Some, None, Ok, Err, length}
 use Rattle.algebra.specs.Fraction.{Fraction}
 use Rattle.ends.specs.Count.{Rises}
 use Rattle.ends.specs.Held.{Held, bytes_of}
 use Rattle.spaces.specs.declared.cell.Cell.TheVariants.{Interval}
 use Rattle.mesh_in.specs.MeshData.{MeshData}
 use Rattle.mesh_in.specs.MeshText.{meaning}
-use Rattle.mesh_in.specs.declared.refusal.MeshKind.TheVariants as mesh
 use Rattle.mesh_in.specs.declared.refusal.MeshRefusal.{MeshRefusal}
 use Rattle.ffc.specs.FormFile.{IsForm, IsNoForm, IsOff}
-use Rattle.mesh_in.specs.HeaderLine.{header_line}
-use Rattle.ffc.specs.declared.outcome.FormKind.{FormKind}
-use Rattle.ffc.specs.declared.outcome.FormKind.TheVariants as form
-use Rattle.ffc.specs.declared.outcome.Outcome.{Outcome}
-use Rattle.ffc.specs.declared.outcome.Outcome.TheVariants.{Form, Mesh, ReadFault, Memory}
+use Rattle.mesh_in.specs.HeaderLine.{IsWrongCell}
+use Rattle.ffc.specs.declared.inputs.TheConstants.{FORM_LIMIT}
+use Rattle.answers.specs.declared.outcome.FormKind.{FormKind}
+use Rattle.answers.specs.declared.outcome.FormKind.TheVariants as form
+use Rattle.answers.specs.declared.outcome.Outcome.{Outcome}
+use Rattle.answers.specs.declared.outcome.Outcome.TheVariants.{Form, Mesh, ReadFault, Memory}
 
 -- ---- files
 
@@ -41,7 +41,7 @@ LoadCause l file name _ = ⊥
 -- ---- the form: file 1
 
 abbrev pub form_limit : ℕ
-form_limit = 262144
+form_limit = FORM_LIMIT
 
 -- a form that can be compiled, with this factor, in a file that isn't too long
 pub record IsFormFile (text : List ℕ) (c : Fraction) : Type 0 where
@@ -71,13 +71,9 @@ IsIntervals text m = (meaning text ≡ Ok m) × (m.kind ≡ Interval)
 abbrev pub HasMesh : Option (List Held) → List ℕ → MeshData Fraction → Type 0
 HasMesh content name m = (text : List ℕ) × IsText content name text × IsIntervals text m
 
--- the text stands for a mesh of other cells, and this is the line of its header
-abbrev pub IsWrongCell : List ℕ → MeshRefusal → Type 0
-IsWrongCell text r = (m : MeshData Fraction) × (meaning text ≡ Ok m) × (m.kind ≢ Interval) × (r.kind ≡ mesh.WrongCell) × (r.line ≡ header_line text)
-
 -- when a mesh is refused: by its text, or for its cells
 abbrev pub MeshRefuses : MeshRefusal → List ℕ → Type 0
-MeshRefuses r text = (meaning text ≡ Err r) ⊎ IsWrongCell text r
+MeshRefuses r text = (meaning text ≡ Err r) ⊎ IsWrongCell Interval text r
 
 -- why there is no mesh
 abbrev pub MeshCause : Loads → List ℕ → Outcome → Type 0

@@ -4,6 +4,7 @@ use Rattle.std.specs.List.{list_any, list_all, AllByRecursion}
 use Rattle.algebra.specs.Fraction.{Fraction}
 use Rattle.ratio.specs.declared.reduced.Ratio.{Ratio}
 use Rattle.ratio.specs.Value.{fraction_of}
+use Rattle.mesh_in.specs.declared.read.TheConstants.{MOST}
 use Rattle.spaces.specs.Cell.{dimension}
 use Rattle.spaces.specs.declared.cell.Cell.{Cell}
 
@@ -37,7 +38,7 @@ pub record IsCell (d count : ℕ) (vertices : List ℕ) : Type 0 where
 
 -- the most points, and the most cells
 abbrev pub most : ℕ
-most = 1000000
+most = MOST
 
 -- each point has its coordinates, and each cell its vertices and a marker; there are not too many of either
 pub record IsMesh {A : Type 0} (m : MeshData A) : Type 0 where
