@@ -65,10 +65,10 @@ no_component Tetrahedron v (suc zero) h = absurd (omega (arith, h))
 no_component Tetrahedron v (suc (suc zero)) h = absurd (omega (arith, h))
 no_component Tetrahedron v (suc (suc (suc i))) h = refl
 
-below : (m n : ℕ) → nat_lt m n ≡ true → m < n
+pub below : (m n : ℕ) → nat_lt m n ≡ true → m < n
 below m n e = grind (arith, nat_tests)
 
-beyond : (m n : ℕ) → nat_lt m n ≡ false → n ≤ m
+pub beyond : (m n : ℕ) → nat_lt m n ≡ false → n ≤ m
 beyond m n e = grind (arith, nat_tests)
 
 pub coordinates_are : (c : Cell) (v : Simplex) → IsOfCell c v → is_zero_fraction (volume v) ≡ false → (i : ℕ)

@@ -1,5 +1,5 @@
--- Adding up values by row and column: what a cell adds at a row and a column is the value of the local nodes there
-use Rattle.std.proofs.Common.{◌≡◌, ◌≢◌, ℕ, zero, suc, ◌+◌, ◌⊎◌, inl, inr, Bool, true, false, ◌&&◌, ◌==◌, List, [], ◌∷◌, ◌++◌, length, map, take, drop, slice_get, Option, None, Some, if◌then◌else◌, refl, sym, ap, ap₂, ◌∙◌, subst, eqb-true, add-zero, zero-add}
+-- Adding numbers_from values by row and column: what a cell adds at a row and a column is the value of the local nodes there
+use Rattle.std.proofs.Common.{◌≡◌, ◌≢◌, ℕ, zero, suc, ◌+◌, ◌⊎◌, inl, inr, Bool, true, false, ◌&&◌, ◌==◌, List, [], ◌∷◌, ◌++◌, length, map, take, drop, slice_get, Option, None, Some, if◌then◌else◌, refl, sym, ap, ap₂, ◌∙◌, subst, eqb-true, add-zero}
 use Rattle.std.specs.List.{AllByRecursion, flat_map}
 use Rattle.std.proofs.lemmas.Bool.{eqb-false}
 use Rattle.std.proofs.lemmas.List.{take_at, drop_at, length-map}
@@ -11,25 +11,8 @@ use Rattle.algebra.specs.Sums.{total}
 use Rattle.algebra.proofs.SumLaws.{total_in-append}
 use Rattle.assembly.specs.Sums.{Entry, is_at, values_at, added, added_onto}
 use Rattle.assembly.specs.Local.{row_entries, local_entries}
-use Rattle.refint.specs.Local.{numbers_below}
+use Rattle.refint.proofs.Values.{numbers_from, numbers_length}
 use Rattle.dofs.proofs.Lists.{suc-moves, same_some, all_at, IsDistinct}
-
--- ---- numbers in order
-abbrev pub up : ℕ → ℕ → List ℕ
-up m zero = []
-up m (suc n) = m ∷ up (suc m) n
-
-up_more : (m n : ℕ) → up m n ++ (m + n) ∷ [] ≡ up m (suc n)
-up_more m zero = ap (λ k. k ∷ []) (add-zero m)
-up_more m (suc n) = ap (λ k. m ∷ (up (suc m) n ++ k ∷ [])) (sym (suc-moves m n)) ∙ ap (λ ks. m ∷ ks) (up_more (suc m) n)
-
-pub below_is_up : (n : ℕ) → numbers_below n ≡ up 0 n
-below_is_up zero = refl
-below_is_up (suc n) = ap₂ (λ ks k. ks ++ k ∷ []) (below_is_up n) (sym (zero-add n)) ∙ up_more 0 n
-
-length-up : (m n : ℕ) → length (up m n) ≡ n
-length-up m zero = refl
-length-up m (suc n) = ap suc (length-up (suc m) n)
 
 -- ---- the values at the places of a number in a list
 abbrev pub picked : ℕ → List ℕ → ℕ → (ℕ → Fraction) → Fraction
@@ -53,7 +36,7 @@ nothing-add : (x : Fraction) → add zero_fraction x ≡ x
 nothing-add x = L.zero-add fractions x
 
 row_sum : (r : ℕ) (cols : List ℕ) (m : ℕ) (f : ℕ → Fraction) (g h : ℕ)
-    → total (values_at (row_entries r cols (map f (up m (length cols)))) g h) ≡ (if r == g then picked h cols m f else zero_fraction)
+    → total (values_at (row_entries r cols (map f (numbers_from m (length cols)))) g h) ≡ (if r == g then picked h cols m f else zero_fraction)
 row_sum r [] m f g h = either (r == g)
   where
     either : (t : Bool) → zero_fraction ≡ (if t then zero_fraction else zero_fraction)
@@ -62,7 +45,7 @@ row_sum r [] m f g h = either (r == g)
 row_sum r (c ∷ cols) m f g h = go (r == g) (c == h) (row_sum r cols (suc m) f g h)
   where
     more : List Fraction
-    more = values_at (row_entries r cols (map f (up (suc m) (length cols)))) g h
+    more = values_at (row_entries r cols (map f (numbers_from (suc m) (length cols)))) g h
 
     go : (s t : Bool) → total more ≡ (if s then picked h cols (suc m) f else zero_fraction)
         → total (if s && t then f m ∷ more else more) ≡ (if s then add (if t then f m else zero_fraction) (picked h cols (suc m) f) else zero_fraction)
@@ -71,20 +54,20 @@ row_sum r (c ∷ cols) m f g h = go (r == g) (c == h) (row_sum r cols (suc m) f 
     go false t e = e
 
 -- ---- all rows
-first_of : (n : ℕ) (f : ℕ → Fraction) (xs : List Fraction) → take n (map f (up 0 n) ++ xs) ≡ map f (up 0 n)
-first_of n f xs = take_at (map f (up 0 n)) xs n (length-map (up 0 n) f ∙ length-up 0 n)
+first_of : (n : ℕ) (f : ℕ → Fraction) (xs : List Fraction) → take n (map f (numbers_from 0 n) ++ xs) ≡ map f (numbers_from 0 n)
+first_of n f xs = take_at (map f (numbers_from 0 n)) xs n (length-map (numbers_from 0 n) f ∙ numbers_length 0 n)
 
-rest_of : (n : ℕ) (f : ℕ → Fraction) (xs : List Fraction) → drop n (map f (up 0 n) ++ xs) ≡ xs
-rest_of n f xs = drop_at (map f (up 0 n)) xs n (length-map (up 0 n) f ∙ length-up 0 n)
+rest_of : (n : ℕ) (f : ℕ → Fraction) (xs : List Fraction) → drop n (map f (numbers_from 0 n) ++ xs) ≡ xs
+rest_of n f xs = drop_at (map f (numbers_from 0 n)) xs n (length-map (numbers_from 0 n) f ∙ numbers_length 0 n)
 
 pub local_sum : (rows cols : List ℕ) (m : ℕ) (f : ℕ → ℕ → Fraction) (g h : ℕ)
-    → total (values_at (local_entries rows cols (flat_map (λ a. map (f a) (up 0 (length cols))) (up m (length rows)))) g h) ≡ picked g rows m (λ a. picked h cols 0 (f a))
+    → total (values_at (local_entries rows cols (flat_map (λ a. map (f a) (numbers_from 0 (length cols))) (numbers_from m (length rows)))) g h) ≡ picked g rows m (λ a. picked h cols 0 (f a))
 local_sum [] cols m f g h = refl
 local_sum (r ∷ rows) cols m f g h =
     let n = length cols in
-    let more = flat_map (λ a. map (f a) (up 0 n)) (up (suc m) (length rows)) in
+    let more = flat_map (λ a. map (f a) (numbers_from 0 n)) (numbers_from (suc m) (length rows)) in
     ap₂ (λ xs ys. total (values_at (row_entries r cols xs ++ local_entries rows cols ys) g h)) (first_of n (f m) more) (rest_of n (f m) more)
-    ∙ total_at-append (row_entries r cols (map (f m) (up 0 n))) (local_entries rows cols more) g h
+    ∙ total_at-append (row_entries r cols (map (f m) (numbers_from 0 n))) (local_entries rows cols more) g h
     ∙ ap₂ add (row_sum r cols 0 (f m) g h) (local_sum rows cols (suc m) f g h)
 
 -- ---- what is picked
@@ -129,14 +112,11 @@ others g (r ∷ rs) all = (λ e. all.0 (sym e), others g rs all.1)
 pub one_picked : (g : ℕ) (rs : List ℕ) (m a : ℕ) (f : ℕ → Fraction) → IsDistinct rs → slice_get rs a ≡ Some g → picked g rs m f ≡ f (m + a)
 one_picked g [] m a f d h = cc
 one_picked g (r ∷ rs) m zero f d h =
-    let e : r ≡ g = same r g h in
+    let e : r ≡ g = same_some r g h in
     step r g m rs f true (itself r g e)
     ∙ ap (add (f m)) (none_picked g rs (suc m) f (others g rs (subst (λ k. AllByRecursion (λ s. k ≢ s) rs) e d.0)))
     ∙ add_zero (f m) ∙ ap f (sym (add-zero m))
   where
-    same : {A : Type 0} (x y : A) → Some x ≡ Some y → x ≡ y
-    same x y e = cc
-
     itself : (r g : ℕ) → r ≡ g → (r == g) ≡ true
     itself r g e = go (r == g) refl
       where

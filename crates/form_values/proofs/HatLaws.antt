@@ -17,6 +17,7 @@ use Rattle.calculus.specs.LocalFunction.{local_function}
 use Rattle.calculus.specs.Mass.{end_node, mass_density}
 use Rattle.kernel.specs.MassShare.{mass_share}
 use Rattle.mesh_in.specs.MeshData.{MeshData, IsCell}
+use Rattle.dofs.proofs.Lists.{same_some}
 use Rattle.assembly.specs.Rows.{has_vertex, occurs, row_of}
 use Rattle.assembly.specs.Sums.{Entry, values_at}
 use Rattle.refint.proofs.SharesLaw.{integral_nil}
@@ -72,9 +73,6 @@ eqb-apart n k h = go (eqb_tells n k)
     go : ((eqb n k ≡ true) × (n ≡ k)) ⊎ ((eqb n k ≡ false) × (n ≢ k)) → eqb n k ≡ false
     go (inl (t, e)) = absurd (h e)
     go (inr (t, e)) = t
-
-same_some : {A : Type 0} (x y : A) → Some x ≡ Some y → x ≡ y
-same_some x y e = cc
 
 -- a cell of two vertices that occur in the mesh and are apart
 module _ (m : MeshData Fraction) (c : Fraction) (a b : ℕ) (apart : a ≢ b) (in_range : a < length m.points) (in_range' : b < length m.points)

@@ -1,3 +1,4 @@
+pub mod ByNumber
 pub mod Cells
 pub mod CoefficientSums
 pub mod Elements

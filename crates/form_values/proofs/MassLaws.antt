@@ -18,7 +18,8 @@ use Rattle.spaces.specs.declared.family.Family.TheVariants.{Lagrange}
 use Rattle.spaces.specs.Space.{scalar}
 use Rattle.mesh_in.specs.MeshData.{MeshData, IsMesh}
 use Rattle.form_values.specs.CellLayout.{Occurring, IsElement, Fits}
-use Rattle.form_values.specs.Linear.{combined, IsLinearIn, IsBlindTo, IsLinearWhere, IsMultilinear}
+use Rattle.form_values.proofs.LinearForms.{times_left, times_right}
+use Rattle.form_values.specs.Linear.{combination, IsLinearIn, IsBlindTo, IsLinearWhere, IsMultilinear}
 use Rattle.form_values.specs.Mass.{mass_form, mass_problem, no_others}
 use Rattle.form_values.specs.Problem.{Problem}
 
@@ -28,21 +29,16 @@ mass_density : (table : Table) (cell : Cell) (c : Ratio) (e : ℕ) (env : Enviro
     ≡ times (times (constant (fraction_of c)) (at_place (function_place table (record { role = Trial; element = e }) []) (env.value Trial))) (at_place (function_place table (record { role = Test; element = e }) []) (env.value Test))
 mass_density table cell c e env = refl
 
-place_combined : (o : Option ℕ) (a b : Fraction) (x y : ℕ → Polynomial) → at_place o (λ i. combined a b (x i) (y i)) ≡ combined a b (at_place o x) (at_place o y)
+place_combined : (o : Option ℕ) (a b : Fraction) (x y : ℕ → Polynomial) → at_place o (λ i. combination a b (x i) (y i)) ≡ combination a b (at_place o x) (at_place o y)
 place_combined None a b x y = Solve.ring polynomials (constant a ∷ constant b ∷ []) (num (pos 0)) (at 0 ⊗ num (pos 0) ⊕ at 1 ⊗ num (pos 0)) refl
 place_combined (Some n) a b x y = refl
 
-right_combined : (a b : Fraction) (p x y : Polynomial) → times p (combined a b x y) ≡ combined a b (times p x) (times p y)
-right_combined a b p x y =
-    Solve.ring polynomials (constant a ∷ constant b ∷ p ∷ x ∷ y ∷ []) (at 2 ⊗ (at 0 ⊗ at 3 ⊕ at 1 ⊗ at 4)) (at 0 ⊗ (at 2 ⊗ at 3) ⊕ at 1 ⊗ (at 2 ⊗ at 4)) refl
-
-left_combined : (a b : Fraction) (p q x y : Polynomial) → times (times p (combined a b x y)) q ≡ combined a b (times (times p x) q) (times (times p y) q)
-left_combined a b p q x y =
-    Solve.ring polynomials (constant a ∷ constant b ∷ p ∷ q ∷ x ∷ y ∷ []) (at 2 ⊗ (at 0 ⊗ at 4 ⊕ at 1 ⊗ at 5) ⊗ at 3) (at 0 ⊗ (at 2 ⊗ at 4 ⊗ at 3) ⊕ at 1 ⊗ (at 2 ⊗ at 5 ⊗ at 3)) refl
+left_combined : (a b : Fraction) (p q x y : Polynomial) → times (times p (combination a b x y)) q ≡ combination a b (times (times p x) q) (times (times p y) q)
+left_combined a b p q x y = ap (λ r. times r q) (times_right a b p x y) ∙ times_left a b q (times p x) (times p y)
 
 in_test : (table : Table) (cell : Cell) (c : Ratio) (e : ℕ) → IsLinearIn Test (density table (mass_form cell c e))
 in_test table cell c e env a b x y o h k =
-    ap (times _) (place_combined (function_place table (record { role = Test; element = e }) []) a b x y) ∙ right_combined a b _ _ _
+    ap (times _) (place_combined (function_place table (record { role = Test; element = e }) []) a b x y) ∙ times_right a b _ _ _
 
 in_trial : (table : Table) (cell : Cell) (c : Ratio) (e : ℕ) → IsLinearIn Trial (density table (mass_form cell c e))
 in_trial table cell c e env a b x y o h k =

@@ -15,10 +15,10 @@ use Rattle.mesh_in.specs.MeshData.{IsCell}
 use Rattle.dofs.specs.Label.{Label}
 use Rattle.dofs.specs.Order.{label_cmp, place}
 use Rattle.dofs.specs.Rows.{local_labels, labels_from, occurring, rows_of}
-use Rattle.dofs.proofs.Lists.{member_at, member_all, unmapped}
+use Rattle.dofs.proofs.Lists.{member_at, member_left, member_right, member_all, unmapped}
 use Rattle.dofs.proofs.RowLaws.{label_total, label_separates, rows_in_order}
 use Rattle.dofs.proofs.SetLaws.{Member, all_append, all_weaker, contains_from_member, member_from_contains, is_sorted_set}
-use Rattle.refint.proofs.Lists.{map_append}
+use Rattle.refint.proofs.Lists.{append_nothing, map_append}
 use Rattle.assembly.specs.Rows.{has_vertex, occurs, rows_below, row_of}
 use Rattle.form_values.proofs.RowLaws.{row_found, row_is}
 use Rattle.form_values.proofs.IntervalMeshes.{IsMember, all_members, by_ends}
@@ -82,13 +82,9 @@ unfolding rows_below
 in_order cells zero = sorted_nothing
 in_order cells (suc n) = subst (IsStrictlySortedBy label_cmp) (sym (map_append vertex_label (rows_below cells n) (if occurs cells n then n ∷ [] else []))) (go (occurs cells n) (in_order cells n))
   where
-    nothing : (ls : List Label) → ls ≡ ls ++ []
-    nothing [] = refl
-    nothing (l ∷ ls) = ap (λ ks. l ∷ ks) (nothing ls)
-
     go : (t : Bool) → IsStrictlySortedBy label_cmp (labels_below cells n) → IsStrictlySortedBy label_cmp (labels_below cells n ++ map vertex_label (if t then n ∷ [] else []))
     go true up = with_last (labels_below cells n) (vertex_label n) up (all_mapped (λ k. label_cmp k (vertex_label n) ≡ Less) (IsRow cells n) (rows_below cells n) (λ v h. below_labels v n h.below) (all_rows cells n))
-    go false up = subst (IsStrictlySortedBy label_cmp) (nothing (labels_below cells n)) up
+    go false up = subst (IsStrictlySortedBy label_cmp) (sym (append_nothing (labels_below cells n))) up
 
 -- ---- the labels that occur
 -- the label of a vertex that occurs
@@ -128,24 +124,15 @@ in_cell k v a b h = go (a == v) refl (b == v) refl h
     go false e true f h = inr (inl (ap vertex_label (sym (eqb-true b v f))))
     go false e false f h = cc
 
-member_front : (l : Label) (xs ys : List Label) → Member l xs → Member l (xs ++ ys)
-member_front l [] ys m = absurd m
-member_front l (x ∷ xs) ys (inl e) = inl e
-member_front l (x ∷ xs) ys (inr m) = inr (member_front l xs ys m)
-
-member_back : (l : Label) (xs ys : List Label) → Member l ys → Member l (xs ++ ys)
-member_back l [] ys m = m
-member_back l (x ∷ xs) ys m = inr (member_back l xs ys m)
-
 occurring_label : (n k v : ℕ) (cells : List (List ℕ)) → AllByRecursion (IsCell 1 n) cells → occurs cells v ≡ true → Member (vertex_label v) (labels_from Interval line_parts k cells)
 occurring_label n k v [] is h = cc
 occurring_label n k v (cell ∷ cells) is h = go (has_vertex v cell) refl h (occurring_label n (suc k) v cells is.1)
   where
     go : (t : Bool) → has_vertex v cell ≡ t → (t || occurs cells v) ≡ true → (occurs cells v ≡ true → Member (vertex_label v) (labels_from Interval line_parts (suc k) cells)) → Member (vertex_label v) (labels_from Interval line_parts k (cell ∷ cells))
     go true e h behind =
-        member_front (vertex_label v) (local_labels Interval 0 line_parts k cell) (labels_from Interval line_parts (suc k) cells)
+        member_left (vertex_label v) (local_labels Interval 0 line_parts k cell) (labels_from Interval line_parts (suc k) cells)
         (by_ends (λ cell. has_vertex v cell ≡ true → Member (vertex_label v) (local_labels Interval 0 line_parts k cell)) n (λ a b apart p q e. in_cell k v a b e) cell is.0 e)
-    go false e h behind = member_back (vertex_label v) (local_labels Interval 0 line_parts k cell) (labels_from Interval line_parts (suc k) cells) (behind h)
+    go false e h behind = member_right (vertex_label v) (local_labels Interval 0 line_parts k cell) (labels_from Interval line_parts (suc k) cells) (behind h)
 
 -- ---- the rows
 module _ (cells : List (List ℕ)) (n : ℕ) (is : AllByRecursion (IsCell 1 n) cells) where

@@ -20,13 +20,10 @@ use Rattle.ufl_meaning.proofs.EnvironmentLaws.{apart}
 use Rattle.ufl_meaning.proofs.FreeLaws.{free_constant, free_nil, free_plus, free_times, free_either}
 use Rattle.form_values.specs.FormValue.{row_value, rows_value, coordinate_value, start_value, start}
 use Rattle.form_values.specs.Problem.{Problem, IsIn, labels_of}
-use Rattle.form_values.proofs.Cells.{corners_are}
+use Rattle.form_values.proofs.Cells.{below, corners_are}
 
 not_below : (t n : ℕ) → n ≤ t → nat_lt t n ≡ false
 not_below t n h = grind (arith, nat_tests)
-
-below : (m n : ℕ) → nat_lt m n ≡ true → m < n
-below m n e = grind (arith, nat_tests)
 
 -- ---- variable t isn't below the dimension of the cell
 module _ (t : ℕ) (c : CellOf) (is : IsCell c.corners) (above : nat_lt t (simplex_dimension c.corners) ≡ false) where

@@ -1,5 +1,5 @@
 -- On a cell, the environment of two rows is that of their local nodes, but for the position
-use Rattle.std.proofs.Common.{◌≡◌, ℕ, zero, suc, ◌+◌, Bool, true, false, ◌==◌, List, [], ◌∷◌, ◌++◌, length, map, slice_get, slice_index_or, Option, None, Some, if◌then◌else◌, refl, sym, ap, ap₂, ◌∙◌, eqb-true, append_assoc, length-append, suc-add, zero-add}
+use Rattle.std.proofs.Common.{◌≡◌, ℕ, zero, suc, ◌+◌, Bool, true, false, ◌==◌, List, [], ◌∷◌, ◌++◌, length, map, slice_get, slice_index_or, Option, None, Some, if◌then◌else◌, refl, sym, ap, ap₂, ◌∙◌, eqb-true, append_assoc, length-append, suc-add, add-zero, zero-add}
 use Rattle.std.proofs.Math.Path.{fun_ext}
 use Rattle.std.specs.List.{AllByRecursion}
 use Rattle.std.specs.List.Sorted.{IsStrictlySortedBy}
@@ -15,7 +15,7 @@ use Rattle.mesh_in.specs.MeshData.{IsMesh}
 use Rattle.dofs.specs.Label.{Label}
 use Rattle.dofs.specs.Order.{label_cmp, place}
 use Rattle.dofs.specs.Parts.{IsOn}
-use Rattle.dofs.specs.Rows.{numbering}
+use Rattle.dofs.specs.Rows.{cell_rows, local_labels, numbering}
 use Rattle.dofs.proofs.SetLaws.{Member, contains_from_member}
 use Rattle.dofs.proofs.RowLaws.{is_at}
 use Rattle.dofs.proofs.TableLaws.{length_local}
@@ -28,7 +28,7 @@ use Rattle.form_values.specs.Problem.{Problem, space_in, labels_in, labels_of, m
 use Rattle.form_values.specs.FormValue.{row_value, rows_value, start_value, start}
 use Rattle.monos.specs.Layout.{value_count}
 use Rattle.form_values.specs.CellLayout.{parts_of, labels_on, rows_on, argument_rows, coefficient_space, coefficient_values, values_on, places_from, layout_of, is_among, IsElementOf, Fits, Occurring}
-use Rattle.dofs.proofs.Lists.{unmapped, all_at}
+use Rattle.dofs.proofs.Lists.{unmapped, all_at, same_some, suc-moves}
 use Rattle.form_values.proofs.Elements.{OnMesh, on_mesh}
 use Rattle.dofs.proofs.Elements.{mesh_cells}
 use Rattle.dofs.proofs.NodeLabels.{IsCellOf}
@@ -45,6 +45,20 @@ cell_is p k mesh at = all_at (IsCellOf p.mesh.kind) p.mesh.cells k.number k.vert
 pub rows_are : (p : Problem) (k : CellOf) (s : Space) → IsMesh p.mesh → IsIn k p → AllByRecursion (IsPart p.mesh.kind) (scalars s) → AreRows p.mesh.kind (scalars s) k.number k.vertices (labels_in p.mesh (Some s))
 unfolding numbering
 rows_are p k s mesh at on = are_rows p.mesh.kind (scalars s) k.number k.vertices p.mesh.cells on (mesh_cells p.mesh mesh) at.vertices
+
+-- the rows of a cell are those that the numbering lists
+row_list : (c : Cell) (ss : List Scalar) (ls : List Label) (m n : ℕ) (vs : List ℕ) (cells : List (List ℕ)) → slice_get cells n ≡ Some vs
+    → slice_get (cell_rows c ss ls m cells) n ≡ Some (map (λ l. place label_cmp l ls) (local_labels c zero ss (m + n) vs))
+row_list c ss ls m n vs [] h = cc
+row_list c ss ls m zero vs (us ∷ cells) h = ap₂ (λ k ws. Some (map (λ l. place label_cmp l ls) (local_labels c zero ss k ws))) (sym (add-zero m)) (same_some us vs h)
+row_list c ss ls m (suc n) vs (us ∷ cells) h =
+    row_list c ss ls (suc m) n vs cells h ∙ ap (λ k. Some (map (λ l. place label_cmp l ls) (local_labels c zero ss k vs))) (suc-moves m n)
+
+pub numbered_rows : (p : Problem) (k : CellOf) (s : Space) → IsIn k p → slice_get (numbering p.mesh s).cells k.number ≡ Some (rows_on p.mesh (Some s) k)
+unfolding numbering
+numbered_rows p k s at =
+    row_list p.mesh.kind (scalars s) (numbering p.mesh s).labels 0 k.number k.vertices p.mesh.cells at.vertices
+    ∙ ap (λ n. Some (map (λ l. place label_cmp l (numbering p.mesh s).labels) (local_labels p.mesh.kind zero (scalars s) n k.vertices))) (zero-add k.number)
 
 -- ---- rows and labels
 pub label_at : (l : Label) (ls : List Label) → IsStrictlySortedBy label_cmp ls → Member l ls → slice_get ls (place label_cmp l ls) ≡ Some l
@@ -73,10 +87,7 @@ index_behind (x ∷ xs) ys n = ap (λ m. slice_index_or (x ∷ xs ++ ys) m zero_
 
 index_mapped : {A : Type 0} (f : A → Fraction) (xs : List A) (ys : List Fraction) (n : ℕ) (x : A) → slice_get xs n ≡ Some x → slice_index_or (map f xs ++ ys) n zero_fraction ≡ f x
 index_mapped f [] ys n x h = cc
-index_mapped f (z ∷ xs) ys zero x h = ap f (same z x h)
-  where
-    same : {A : Type 0} (x y : A) → Some x ≡ Some y → x ≡ y
-    same x y e = cc
+index_mapped f (z ∷ xs) ys zero x h = ap f (same_some z x h)
 index_mapped f (z ∷ xs) ys (suc n) x h = index_mapped f xs ys n x h
 
 map_twice : {A B C : Type 0} (f : A → B) (g : B → C) (xs : List A) → map g (map f xs) ≡ map (λ x. g (f x)) xs

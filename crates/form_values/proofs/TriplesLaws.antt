@@ -3,7 +3,6 @@ use Rattle.std.proofs.Common.{◌++◌, ◌≡◌, ℕ, suc, ◌+◌, ◌<◌, �
 use Rattle.std.specs.List.{AllByRecursion, flat_map}
 use Rattle.std.specs.List.Sorted.{IsStrictlySortedBy}
 use Rattle.std.proofs.lemmas.List.{length-map}
-use Rattle.std.proofs.lemmas.Bool.Decides.{nat_tests}
 use Rattle.algebra.specs.Fraction.{Fraction, zero_fraction, add, add_zero}
 use Rattle.algebra.specs.Sums.{total}
 use Rattle.spaces.specs.Scalar.{Scalar, placed, local_size}
@@ -33,15 +32,16 @@ use Rattle.monos.specs.Layout.{position_parts}
 use Rattle.ufl_tree.specs.declared.function.Role.TheVariants.{Position}
 use Rattle.refint.specs.Local.{count_in, entries_of, local_share, local_shares, position_part, position_value}
 use Rattle.refint.proofs.LocalLaws.{local_only_used}
+use Rattle.refint.proofs.Values.{numbers_from, below_from}
 use Rattle.refint.proofs.SharesLaw.{integral_nil}
 use Rattle.form_values.specs.CellLayout.{Occurring, parts_of, labels_on, rows_on, argument_rows, values_on, layout_of, IsElementOf, Fits}
 use Rattle.form_values.specs.CellShares.{density_on, tensor_entries, shares_on, cell_entries, entries_from, IsWhole, HaveShares}
-use Rattle.form_values.specs.FormValue.{coordinate_value, is_in_range, share_value, row_value, start, cell_value, cells_value, form_value, AreTriples}
+use Rattle.form_values.specs.FormValue.{coordinate_value, is_in_range, share_value, row_value, start, cell_value, cells_value, form_value, AreTriples, AreCellTriples}
 use Rattle.form_values.specs.Linear.{with_components, IsLinearWhere, IsMultilinear}
 use Rattle.form_values.specs.Problem.{Problem, cell_of_mesh, marker_of, space_in, labels_in, labels_of, row_count, IsIn}
-use Rattle.form_values.proofs.Cells.{corners_are, coordinates_are}
+use Rattle.form_values.proofs.Cells.{below, beyond, corners_are, coordinates_are}
 use Rattle.form_values.proofs.Elements.{OnMesh, on_mesh}
-use Rattle.form_values.proofs.EntrySums.{up, below_is_up, total_at-append, picked, local_sum, Avoids, found, none_picked, zero_picked, one_picked, added_is_total}
+use Rattle.form_values.proofs.EntrySums.{total_at-append, picked, local_sum, Avoids, found, none_picked, zero_picked, one_picked, added_is_total}
 use Rattle.form_values.proofs.Parameters.{start_only_used}
 use Rattle.form_values.proofs.Starts.{cell_is, rows_are, label_at, parts_on, position_on, local_on, start_at_nodes}
 use Rattle.form_values.proofs.Vanishing.{own_components, linear_vanishes, no_local_node}
@@ -129,12 +129,12 @@ nothing_off p (Some e) w k g env mesh element at lt linear plain only is none =
 
 shares_are : (p : Problem) (o : Occurring) (k : CellOf) → Fits p o
     → shares_on p o k
-    ≡ flat_map (λ a. map (local_share (density_on p (marker_of p.mesh k.number)) (layout_of p o) k.corners (values_on p o.coefficients k) a) (up 0 (length (argument_rows p p.trial k)))) (up 0 (length (argument_rows p p.test k)))
+    ≡ flat_map (λ a. map (local_share (density_on p (marker_of p.mesh k.number)) (layout_of p o) k.corners (values_on p o.coefficients k) a) (numbers_from 0 (length (argument_rows p p.trial k)))) (numbers_from 0 (length (argument_rows p p.test k)))
 unfolding local_shares
 shares_are p o k fits =
     ap₂ (λ ns ms. flat_map (λ a. map (local_share (density_on p (marker_of p.mesh k.number)) (layout_of p o) k.corners (values_on p o.coefficients k) a) ms) ns)
-    (below_is_up (entries_of (parts_of (space_in p p.test))) ∙ ap (up 0) (sym (rows_size p p.test k fits.test)))
-    (below_is_up (entries_of (parts_of (space_in p p.trial))) ∙ ap (up 0) (sym (rows_size p p.trial k fits.trial)))
+    (below_from (entries_of (parts_of (space_in p p.test))) ∙ ap (numbers_from 0) (sym (rows_size p p.test k fits.test)))
+    (below_from (entries_of (parts_of (space_in p p.trial))) ∙ ap (numbers_from 0) (sym (rows_size p p.trial k fits.trial)))
 
 -- what a cell adds at a row and a column is the integral over it
 pub cell_law : (p : Problem) (o : Occurring) (k : CellOf) (g h : ℕ) → Fits p o → IsMultilinear p o → IsIn k p → IsWhole o k
@@ -176,10 +176,10 @@ cell_law p o k g h fits linear at whole row_in col_in =
 
 -- ---- all cells
 -- the cells from number n on
-abbrev Cells : Problem → ℕ → List (List ℕ) → Type 0
+abbrev pub Cells : Problem → ℕ → List (List ℕ) → Type 0
 Cells p n cells = (i : ℕ) → slice_get p.mesh.cells (n + i) ≡ slice_get cells i
 
-first : (p : Problem) (n : ℕ) (vs : List ℕ) (cells : List (List ℕ)) → Cells p n (vs ∷ cells) → IsIn (cell_of_mesh p.mesh n vs) p
+pub first : (p : Problem) (n : ℕ) (vs : List ℕ) (cells : List (List ℕ)) → Cells p n (vs ∷ cells) → IsIn (cell_of_mesh p.mesh n vs) p
 first p n vs cells are = record { vertices = ap (slice_get p.mesh.cells) (sym (add-zero n)) ∙ are 0; corners = refl }
 
 cells_law : (p : Problem) (o : Occurring) (g h : ℕ) → Fits p o → IsMultilinear p o → AreWhole p o → g < row_count p p.test → h < row_count p p.trial
@@ -234,12 +234,6 @@ cells_beyond p o g h fits beyond n (vs ∷ cells) are =
     ∙ add_zero zero_fraction
 
 -- ---- the tests of rows and columns
-below : (m n : ℕ) → nat_lt m n ≡ true → m < n
-below m n e = grind (arith, nat_tests)
-
-beyond : (m n : ℕ) → nat_lt m n ≡ false → n ≤ m
-beyond m n e = grind (arith, nat_tests)
-
 by_range : (p : Problem) (g h : ℕ) (x y : Fraction) → (g < row_count p p.test → h < row_count p p.trial → x ≡ y) → ((row_count p p.test ≤ g) ⊎ (row_count p p.trial ≤ h) → x ≡ zero_fraction)
     → x ≡ (if is_in_range p g h then y else zero_fraction)
 by_range p g h x y inside outside = go (nat_lt g (row_count p p.test)) (nat_lt h (row_count p p.trial)) refl refl
@@ -255,7 +249,7 @@ unfolding share_value
 share_value_law p o k fits linear at whole g h = by_range p g h _ _ (cell_law p o k g h fits linear at whole) (cell_beyond p o k g h fits at)
 
 -- ---- the form
-from_start : (p : Problem) → Cells p 0 p.mesh.cells
+pub from_start : (p : Problem) → Cells p 0 p.mesh.cells
 from_start p i = ap (slice_get p.mesh.cells) (zero-add i)
 
 pub form_value_law : (p : Problem) (o : Occurring) → Fits p o → IsMultilinear p o → AreWhole p o → (g h : ℕ) → total (values_at (tensor_entries p (shares_on p o)) g h) ≡ form_value p g h
@@ -283,9 +277,19 @@ sums_are_triples p o tensor triples fits linear have sums = record {
       ∙ form_value_law p o fits linear (λ k at. (have k at).whole) row col;
 }
 
--- what a cell adds, for an answer cell by cell
-pub shares_are_values : (p : Problem) (o : Occurring) (tensor : CellOf → List Fraction) → Fits p o → IsMultilinear p o → HaveShares p o tensor
+-- what a cell adds
+cell_total : (p : Problem) (o : Occurring) (tensor : CellOf → List Fraction) → Fits p o → IsMultilinear p o → HaveShares p o tensor
     → (k : CellOf) → IsIn k p → (g h : ℕ) → total (values_at (cell_entries p tensor k) g h) ≡ share_value p g h k
-shares_are_values p o tensor fits linear have k at g h =
+cell_total p o tensor fits linear have k at g h =
     ap (λ xs. total (values_at (local_entries (argument_rows p p.test k) (argument_rows p p.trial k) xs) g h)) (have k at).shares
     ∙ share_value_law p o k fits linear at (have k at).whole g h
+
+pub cell_triples : (p : Problem) (o : Occurring) (tensor : CellOf → List Fraction) → Fits p o → IsMultilinear p o → HaveShares p o tensor
+    → (k : CellOf) → IsIn k p → (triples : List Entry) → AreSums (cell_entries p tensor k) triples → AreCellTriples p k triples
+cell_triples p o tensor fits linear have k at triples sums = record {
+  ordered = sums.ordered;
+  nonzero = sums.nonzero;
+  exact = λ row col.
+      added_is_total (values_at (cell_entries p tensor k) row col) (entry_at triples row col) (sums.exact row col)
+      ∙ cell_total p o tensor fits linear have k at row col;
+}

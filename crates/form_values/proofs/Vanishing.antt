@@ -2,8 +2,8 @@
 use Rattle.std.proofs.Common.{◌≡◌, ◌≢◌, ℕ, inl, inr, Bool, true, false, List, [], ◌∷◌, map, slice_get, Option, None, Some, if◌then◌else◌, refl, sym, ap, ap₂, ◌∙◌, subst, eqb-true, zero-add}
 use Rattle.std.proofs.Math.Path.{fun_ext}
 use Rattle.algebra.specs.RingLaws as L
-use Rattle.algebra.specs.Fraction.{Fraction, zero_fraction}
-use Rattle.calculus.specs.Polynomial.{Polynomial, nil, plus, times, constant, polynomials, plus-nil}
+use Rattle.algebra.specs.Fraction.{zero_fraction}
+use Rattle.calculus.specs.Polynomial.{Polynomial, nil, plus, times, polynomials, plus-nil}
 use Rattle.calculus.proofs.PolynomialLaws.{constant-zero}
 use Rattle.spaces.specs.Space.{Space, scalars}
 use Rattle.spaces.specs.Scalar.{Scalar}
@@ -19,9 +19,10 @@ use Rattle.dofs.specs.Basis.{CellOf, basis_value}
 use Rattle.form_values.specs.Problem.{Problem, labels_in, labels_of, IsIn}
 use Rattle.form_values.specs.FormValue.{row_value}
 use Rattle.form_values.specs.CellLayout.{labels_on, rows_on, argument_rows, IsElement}
-use Rattle.form_values.specs.Linear.{with_components, combined, IsLinearIn}
+use Rattle.form_values.specs.Linear.{with_components, IsLinearIn}
 use Rattle.ufl_meaning.specs.Monomial.{HasNoOffset}
 use Rattle.dofs.proofs.Lists.{all_at, member_all, one_place}
+use Rattle.form_values.proofs.LinearForms.{combination_nil}
 use Rattle.form_values.proofs.Elements.{OnMesh, on_mesh}
 use Rattle.dofs.proofs.OccurringLabels.{HasPart, no_component, only_local, part_in_local}
 use Rattle.form_values.proofs.CoefficientSums.{AreRows}
@@ -48,9 +49,6 @@ same_role_is (Coefficient m) Trial h = cc
 same_role_is (Coefficient m) Position h = cc
 same_role_is (Coefficient m) (Coefficient n) h = ap Coefficient (eqb-true m n h)
 
-combined_nil : (a b : Fraction) → combined a b nil nil ≡ nil
-combined_nil a b = ap₂ plus (L.mul-zero polynomials (constant a)) (L.mul-zero polynomials (constant b)) ∙ plus-nil nil
-
 pub own_components : (w : Role) (x : ℕ → Polynomial) (env : Environment) → ((i : ℕ) → env.value w i ≡ x i) → with_components w x env ≡ env
 own_components w x env own = ap (λ f. record env { value = f }) (fun_ext (λ r. fun_ext (λ i. go r i (same_role r w) refl)))
   where
@@ -64,7 +62,7 @@ linear_vanishes w density env linear plain only none =
     let same : with_components w (λ i. nil) env ≡ env = own_components w (λ i. nil) env none in
     let only_nil : HasOnlyUsed (with_components w (λ i. nil) env) = subst HasOnlyUsed (sym same) only in
     ap density (sym same)
-    ∙ ap (λ f. density (with_components w f env)) (fun_ext (λ i. sym (combined_nil zero_fraction zero_fraction)))
+    ∙ ap (λ f. density (with_components w f env)) (fun_ext (λ i. sym (combination_nil zero_fraction zero_fraction)))
     ∙ linear env zero_fraction zero_fraction (λ i. nil) (λ i. nil) plain only_nil only_nil
     ∙ ap (λ c. plus (times c (density (with_components w (λ i. nil) env))) (times c (density (with_components w (λ i. nil) env)))) constant-zero
     ∙ ap₂ plus (L.zero-mul polynomials _) (L.zero-mul polynomials _) ∙ plus-nil nil

@@ -76,3 +76,9 @@ pub record AreTriples (p : Problem) (triples : List Entry) : Type 0 where
   pub ordered : AreOrdered triples
   pub nonzero : AllByRecursion (λ e. e.value ≢ zero_fraction) triples
   pub exact : (row col : ℕ) → entry_at triples row col ≡ form_value p row col
+
+-- the same of what one cell adds
+pub record AreCellTriples (p : Problem) (k : CellOf) (triples : List Entry) : Type 0 where
+  pub ordered : AreOrdered triples
+  pub nonzero : AllByRecursion (λ e. e.value ≢ zero_fraction) triples
+  pub exact : (row col : ℕ) → entry_at triples row col ≡ share_value p row col k

@@ -4,45 +4,56 @@
 ghost use Rattle.std.specs.Prelude.{◌≡◌, ◌≤◌, ◌^◌, ℕ, List, Some, length, slice_get};
 ghost use Rattle.std.specs.List.{AllByRecursion};
 ghost use Rattle.algebra.specs.Fraction.{Fraction};
-ghost use Rattle.algebra.specs.Sums.{total};
 ghost use Rattle.calculus.specs.Polynomial.{nil, derivative};
 ghost use Rattle.ratio.specs.declared.reduced.Ratio.{Ratio};
 ghost use Rattle.c_unit.specs.declared.unit.CFun.{CFun};
 ghost use Rattle.ratio.specs.Value.{fraction_of};
 ghost use Rattle.spaces.specs.declared.cell.Cell.TheVariants.{Interval};
 ghost use Rattle.spaces.specs.Cell.{dimension};
+ghost use Rattle.spaces.specs.Space.{Space};
 ghost use Rattle.mesh_in.specs.MeshData.{MeshData, IsMesh, fractions};
+ghost use Rattle.monos.specs.Monomial.{Monomial};
 ghost use Rattle.monos.specs.Layout.{IsLawfulOn, AreRising, value_count};
 ghost use Rattle.dofs.specs.Basis.{CellOf};
+ghost use Rattle.dofs.specs.Rows.{numbering};
 ghost use Rattle.refint.specs.Local.{local};
 ghost use Rattle.ufl_tree.specs.declared.function.Role.{Role};
 ghost use Rattle.ufl_meaning.specs.Density.{density};
-ghost use Rattle.ufl_meaning.specs.Environment.{HasOnlyUsed};
-ghost use Rattle.ufl_meaning.specs.Monomial.{HasNoOffset};
+ghost use Rattle.ufl_meaning.specs.Environment.{Environment, HasOnlyUsed};
+ghost use Rattle.ufl_meaning.specs.Monomial.{HasNoOffset, monos_value};
 ghost use Rattle.assembly.specs.Rows.{row_of};
-ghost use Rattle.assembly.specs.Sums.{Entry, AreSums, values_at};
+ghost use Rattle.assembly.specs.Sums.{Entry, AreSums};
 ghost use Rattle.assembly.specs.Run.{IsGood, run_entries};
 ghost use Rattle.assembly.specs.Run as runs;
 ghost use Rattle.assembly.specs.declared.refusal.RunRefusal.{RunRefusal};
 ghost use Rattle.assembly.specs.declared.refusal.RunRefusal.TheVariants.{Memory};
-ghost use Rattle.form_values.specs.CellLayout.{Occurring, Fits, argument_rows, layout_of, values_on};
+ghost use Rattle.form_values.specs.CellLayout.{Occurring, Fits, argument_rows, rows_on, layout_of, values_on};
 ghost use Rattle.form_values.specs.CellShares.{HaveShares, IsWhole, cell_entries, density_on, tensor_entries};
-ghost use Rattle.form_values.specs.FormValue.{AreTriples, form_value, share_value, start, start_value};
+ghost use Rattle.form_values.specs.FormValue.{AreTriples, AreCellTriples, form_value, start, start_value};
 ghost use Rattle.form_values.specs.HatFunctions.{hat_value};
-ghost use Rattle.form_values.specs.Linear.{IsMultilinear};
+ghost use Rattle.form_values.specs.Linear.{HaveArguments, IsMultilinear};
 ghost use Rattle.form_values.specs.Mass.{mass_problem, no_others};
 ghost use Rattle.form_values.specs.Problem.{Problem, IsIn, marker_of, row_count};
 ghost use Rattle.form_values.specs.Shares.{HasMatrix, Refuses, IsPlanned, IsIntervalMesh};
 
 /// Whatever makes the local tensors of the cells: where each is its cell's shares, their sums by row and column are the values of the
-/// form, and what a cell adds at a row and a column is its share there. The form is linear in its arguments: that is a premise.
+/// form, and those of one cell are what it adds to them. The form is linear in its arguments: that is a premise.
 pub fn triples()
     ensures sums { (p : Problem) (o : Occurring) → Fits p o → IsMultilinear p o
         → (tensor : CellOf → List Fraction) → HaveShares p o tensor
         → (triples : List Entry) → AreSums (tensor_entries p tensor) triples → AreTriples p triples }
-    ensures shares { (p : Problem) (o : Occurring) → Fits p o → IsMultilinear p o
+    ensures cells { (p : Problem) (o : Occurring) → Fits p o → IsMultilinear p o
         → (tensor : CellOf → List Fraction) → HaveShares p o tensor → (k : CellOf) → IsIn k p
-        → (row col : ℕ) → total (values_at (cell_entries p tensor k) row col) ≡ share_value p row col k }
+        → (triples : List Entry) → AreSums (cell_entries p tensor k) triples → AreCellTriples p k triples }
+{}
+
+/// A form is linear in its arguments where its density is a sum of monomials, on the cells of each marker others maybe, which have one
+/// test and one trial function if the form has them, and no position if none is said to occur.
+pub fn linearity()
+    ensures { (p : Problem) (o : Occurring) (ms : ℕ → List Monomial)
+        → ((env : Environment) → HasOnlyUsed env → HasNoOffset env
+        → monos_value env (ms env.marker) ≡ density p.elements p.form env)
+        → ((k : ℕ) → HaveArguments p o (ms k)) → IsMultilinear p o }
 {}
 
 /// On a cell of the mesh, what a form integrates at two local nodes is what it integrates at their rows.
@@ -60,6 +71,12 @@ pub fn environment()
     ensures parameters { (p : Problem) (k : CellOf) → IsMesh p.mesh → IsIn k p → (g h : ℕ)
         → HasOnlyUsed (start p k g h) }
     ensures offsets { (p : Problem) (k : CellOf) (g h : ℕ) → HasNoOffset (start p k g h) }
+{}
+
+/// The rows of a cell are those that the numbering of the element lists.
+pub fn rows_of_cells()
+    ensures { (p : Problem) (s : Space) (k : CellOf) → IsIn k p
+        → slice_get (numbering p.mesh s).cells k.number ≡ Some (rows_on p.mesh (Some s) k) }
 {}
 
 /// The layout of a form is lawful where the numbers of its coefficients rise and they have at most 2^24 values on a cell; each cell
