@@ -34,11 +34,8 @@ pub fn value(alloc: Global, scene: &Scene, tree: &Tree, at: &[u8]) -> Result<Pol
     let mut total = Poly::zero(alloc);
     for names in all {
         let here = Scene {
-            elements: scene.elements,
-            functions: scene.functions,
-            marker: scene.marker,
-            changes: scene.changes,
             names: names.as_slice(),
+            ..*scene
         };
         total = total.sum(alloc, &unsummed(alloc, &here, tree, at)?)?;
     }
@@ -105,11 +102,8 @@ fn tensor(alloc: Global, scene: &Scene, a: &Tree, by: &[u16], at: &[u8]) -> Resu
 {
     let names = with_all_bound(alloc, scene.names, by, at)?;
     let here = Scene {
-        elements: scene.elements,
-        functions: scene.functions,
-        marker: scene.marker,
-        changes: scene.changes,
         names: names.as_slice(),
+        ..*scene
     };
     value(alloc, &here, a, &[])
 }
@@ -126,11 +120,8 @@ fn diff(alloc: Global, scene: &Scene, a: &Tree, label: u32, at: &[u8]) -> Result
     };
     let changes = with_change(alloc, scene.changes, raised)?;
     let here = Scene {
-        elements: scene.elements,
-        functions: scene.functions,
-        marker: scene.marker,
         changes: changes.as_slice(),
-        names: scene.names,
+        ..*scene
     };
     value(alloc, &here, a, first_part(shape, at))?.linear_part(alloc, used(scene.changes))
 }

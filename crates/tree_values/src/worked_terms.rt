@@ -2,8 +2,7 @@
 
 use crate::meanings::meaning;
 use crate::poly::Poly;
-use crate::scene::Scene;
-use crate::worked::{FLOW, Name, PLACE, elements, function, functions, gives, whole};
+use crate::worked::{FLOW, Name, PLACE, elements, function, functions, gives, scene, whole};
 use reference::Fault;
 use sqlite_items::{Boxed, Items};
 use std::alloc::Global;
@@ -155,13 +154,7 @@ fn built(alloc: Global, steps: &[Step]) -> Result<Plain, Fault> {
 fn found(alloc: Global, steps: &[Step]) -> Result<Poly, Fault> {
     let elements = elements(alloc)?;
     let functions = functions(alloc)?;
-    let scene = Scene {
-        elements: elements.as_slice(),
-        functions: functions.as_slice(),
-        marker: 4,
-        changes: &[],
-        names: &[],
-    };
+    let scene = scene(elements.as_slice(), functions.as_slice());
     meaning(alloc, &scene, &built(alloc, steps)?)
 }
 
