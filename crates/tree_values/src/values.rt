@@ -12,12 +12,12 @@ use crate::component::{
 };
 use crate::environment::{Change, offset, used, with_change};
 use crate::leaf::{function, identity, piece, unit};
-use crate::number::one_in;
 use crate::operands::{combined, first_size, last_size, other_axes, wanted};
 use crate::poly::Poly;
 use crate::scene::{Scene, assignments, number, numbers, with_all_bound};
 use crate::summed::summed;
 use reference::Fault;
+use reference::number::one_in;
 use sqlite_items::Items;
 use std::alloc::Global;
 use ufl_tree::{Node, Op1, Tree};

@@ -3,12 +3,12 @@
 ghost use Rattle.std.specs.Prelude.{◌+◌, ◌<◌, ◌≤◌, length, IfOk};
 
 use crate::environment::Given;
-use crate::number::product;
 use crate::poly::Poly;
 use crate::scene::Scene;
 use crate::term::Term;
 use ratio::Ratio;
 use reference::Fault;
+use reference::number::product;
 use spaces::{Cell, Element, Family};
 use sqlite_items::Items;
 use std::alloc::Global;
