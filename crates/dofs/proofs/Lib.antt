@@ -1,3 +1,4 @@
+pub mod Counting
 pub mod Elements
 pub mod KeyLaws
 pub mod Lists
@@ -6,6 +7,7 @@ pub mod LocalNodeLaws
 pub mod NodeLabels
 pub mod NumberingLaws
 pub mod OccurringLabels
+pub mod RankLaws
 pub mod RowLaws
 pub mod SetLaws
 pub mod SupportLaws

@@ -10,12 +10,14 @@ mod key;
 pub mod laws;
 mod local;
 mod numbering;
-mod sorted;
+mod places;
+mod ranks;
 mod support;
 mod table;
 
 pub use dof_map::{DofMap, LabelView};
 pub use numbering::number;
+pub use places::RowPlace;
 
 #[cfg(test)]
 mod tests;

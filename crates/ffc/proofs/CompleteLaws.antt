@@ -12,12 +12,12 @@ use Rattle.ffc.specs.FormFile.{IsForm}
 use Rattle.ffc.specs.Inputs.{Loads, IsText, IsFormFile, HasForm, FormRefuses, FormCause, IsIntervals, HasMesh, MeshRefuses, MeshCause}
 use Rattle.ffc.specs.Assemble.{RunCause, AssembleCause}
 use Rattle.ffc.specs.Answer.{HasCause, IsCaused, HoldForm, HoldMesh, CanAnswer, Compiles, Assembles, IsComplete}
-use Rattle.ffc.specs.Outcome.{run_outcome}
+use Rattle.answers.specs.Outcome.{run_outcome}
 use Rattle.ffc.specs.Words.{HaveNoShape}
-use Rattle.ffc.specs.declared.outcome.FormKind.{FormKind}
-use Rattle.ffc.specs.declared.outcome.FormKind.TheVariants as form
-use Rattle.ffc.specs.declared.outcome.Outcome.{Outcome}
-use Rattle.ffc.specs.declared.outcome.Outcome.TheVariants.{Done, Usage, Form, Mesh, Passed, ReadFault, WriteFault, Memory}
+use Rattle.answers.specs.declared.outcome.FormKind.{FormKind}
+use Rattle.answers.specs.declared.outcome.FormKind.TheVariants as form
+use Rattle.answers.specs.declared.outcome.Outcome.{Outcome}
+use Rattle.answers.specs.declared.outcome.Outcome.TheVariants.{Done, Usage, Form, Mesh, Passed, ReadFault, WriteFault, Memory}
 
 same_text : (files : List Held) (content : Option (List Held)) (name text other : List ℕ) → content ≡ Some files → bytes_of files name ≡ Some text → IsText content name other → other ≡ text
 same_text files content name text other told held is = same (sym (subst (λ (k : Option (List Held)). IsText k name other) told is) ∙ held)
@@ -57,7 +57,7 @@ no_mesh_refusal r text m (is, interval) (inl h) = apart (sym is ∙ h)
   where
     apart : Ok m ≡ Err r → ⊥
     apart e = cc
-no_mesh_refusal r text m (is, interval) (inr (n, h, other, kind, line)) = other (ap (λ (x : MeshData Fraction). x.kind) (same_ok n m (sym h ∙ is)) ∙ interval)
+no_mesh_refusal r text m (is, interval) (inr (n, h, other, refused)) = other (ap (λ (x : MeshData Fraction). x.kind) (same_ok n m (sym h ∙ is)) ∙ interval)
 
 mesh_accepted : (l : Loads) (files : List Held) (name : List ℕ) (m : MeshData Fraction) (o : Outcome) → l.content ≡ Some files → HoldMesh files name m → ¬ Rises l.before l.now → MeshCause l name o → o ≡ Memory
 mesh_accepted l files name m (Mesh r) told (text, held, f) still (other, is, h) =

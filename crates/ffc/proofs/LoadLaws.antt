@@ -1,19 +1,22 @@
 -- A file of which one byte more than the limit was asked
-use Rattle.std.proofs.Common.{◌≡◌, ℕ, ◌+◌, ◌<◌, ◌≤◌, ◌⊎◌, List, Ok, Err, false, length, take, refl, sym, ◌∙◌, ap, arith, subst, inl, ⊎_elim, min, nat_le}
+use Rattle.std.proofs.Common.{◌≡◌, ℕ, ◌+◌, ◌<◌, ◌≤◌, ◌⊎◌, List, Ok, Err, false, length, take, refl, sym, ◌∙◌, ap, arith, subst, inl, inr, ⊎_elim, min, nat_le}
 use Rattle.std.proofs.lemmas.List.{length-take, take_all}
 use Rattle.std.proofs.lemmas.Bool.{lt-leb}
 use Rattle.algebra.specs.Fraction.{Fraction}
 use Rattle.mesh_in.specs.MeshText.{meaning, longest}
 use Rattle.mesh_in.specs.MeshData.{MeshData}
-use Rattle.mesh_in.specs.Refusal.{out_of_memory, refusal}
+use Rattle.mesh_in.specs.Refusal.{refusal}
+use Rattle.mesh_in.specs.HeaderLine.{IsWrongCell}
+use Rattle.mesh_in.specs.Reader.{Fails}
+use Rattle.spaces.specs.declared.cell.Cell.TheVariants.{Interval}
 use Rattle.mesh_in.proofs.ReadingLemmas.{long_text}
 use Rattle.mesh_in.specs.declared.refusal.MeshKind.{MeshKind}
 use Rattle.mesh_in.specs.declared.refusal.MeshKind.TheVariants as kind
 use Rattle.mesh_in.specs.declared.refusal.MeshRefusal.{MeshRefusal}
 use Rattle.ffc.specs.Inputs.{Loads, IsText, LoadCause, FormCause, MeshCause}
-use Rattle.ffc.specs.Outcome.{mesh_outcome, outcome_of_kind}
-use Rattle.ffc.specs.declared.outcome.Outcome.{Outcome}
-use Rattle.ffc.specs.declared.outcome.Outcome.TheVariants.{Done, Usage, Form, Mesh, Passed, ReadFault, WriteFault, Memory}
+use Rattle.answers.specs.Outcome.{mesh_outcome, outcome_of_kind}
+use Rattle.answers.specs.declared.outcome.Outcome.{Outcome}
+use Rattle.answers.specs.declared.outcome.Outcome.TheVariants.{Done, Usage, Form, Mesh, Passed, ReadFault, WriteFault, Memory}
 
 -- the extra byte is there
 pub too_long : (text bytes : List ℕ) (n : ℕ) → take (n + 1) text ≡ bytes → n < length bytes → n < length text
@@ -25,9 +28,6 @@ whole text bytes n e h =
     let f : length bytes ≡ min (n + 1) (length text) = ap length (sym e) ∙ length-take (n + 1) text in
     let g : length text ≤ n + 1 = omega (arith, f) in
     sym e ∙ take_all (n + 1) text g
-
-pub at_most : (text bytes : List ℕ) (n : ℕ) → take (n + 1) text ≡ bytes → length bytes ≤ n + 1
-at_most text bytes n e = let f : length bytes ≡ min (n + 1) (length text) = ap length (sym e) ∙ length-take (n + 1) text in omega (arith, f)
 
 size : (n : ℕ) (xs : List ℕ) → (length xs ≤ n) ⊎ (n < length xs)
 size n xs = grind arith
@@ -68,14 +68,21 @@ by_kind l name text r kind.Degenerate t e = (text, t, inl e)
 by_kind l name text r kind.TooManyEntries t e = (text, t, inl e)
 by_kind l name text r kind.Memory t e = tt
 
+-- a mesh of other cells
+wrong_cell : (text bytes : List ℕ) (r : MeshRefusal) → take (longest + 1) text ≡ bytes → IsWrongCell Interval bytes r → IsWrongCell Interval text r
+wrong_cell text bytes r e (m, is, other, refused) = subst (λ (b : List ℕ). IsWrongCell Interval b r) (mesh_whole text bytes m e is) (m, is, other, refused)
+
+by_cell : (l : Loads) (name text : List ℕ) (r : MeshRefusal) → IsText l.content name text → IsWrongCell Interval text r → MeshCause l name (mesh_outcome r)
+by_cell l name text r t (m, is, other, refused) =
+    subst (λ (s : MeshRefusal). MeshCause l name (mesh_outcome s)) (sym refused) (text, t, inr (m, is, other, refl))
+
 -- a refusal of the text as the outcome
-pub mesh_fits : (l : Loads) (name text bytes : List ℕ) (r : MeshRefusal) (o : Outcome) → IsText l.content name text → meaning bytes ≡ meaning text → (r ≡ out_of_memory) ⊎ (meaning bytes ≡ Err r) → o ≡ mesh_outcome r → MeshCause l name o
-mesh_fits l name text bytes r o t same c e =
-    subst (MeshCause l name) (sym e)
-    (⊎_elim
-    (λ (m : r ≡ out_of_memory). subst (λ (s : MeshRefusal). MeshCause l name (mesh_outcome s)) (sym m) tt)
-    (λ (m : meaning bytes ≡ Err r). by_kind l name text r r.kind t (sym same ∙ m))
-    c)
+pub mesh_fits : (l : Loads) (name text bytes lent : List ℕ) (r : MeshRefusal) (o : Outcome) → IsText l.content name text → take (longest + 1) text ≡ bytes → lent ≡ bytes
+    → Fails r (meaning lent) ⊎ IsWrongCell Interval lent r → o ≡ mesh_outcome r → MeshCause l name o
+mesh_fits l name text bytes lent r o t e same (inl (inl memory)) is = subst (MeshCause l name) (sym is) (subst (λ (s : MeshRefusal). MeshCause l name (mesh_outcome s)) (sym memory) tt)
+mesh_fits l name text bytes lent r o t e same (inl (inr refused)) is = subst (MeshCause l name) (sym is) (by_kind l name text r r.kind t (sym (ap meaning same ∙ same_meaning text bytes e) ∙ refused))
+mesh_fits l name text bytes lent r o t e same (inr wrong) is =
+    subst (MeshCause l name) (sym is) (by_cell l name text r t (wrong_cell text bytes r e (subst (λ (b : List ℕ). IsWrongCell Interval b r) same wrong)))
 
 -- ---- a file that was not loaded
 

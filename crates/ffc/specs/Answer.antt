@@ -10,8 +10,8 @@ use Rattle.ffc.specs.Assemble.{AssembleCause, IsMatrixText}
 use Rattle.ffc.specs.Compile.{IsUnitText}
 use Rattle.ffc.specs.Inputs.{Loads, FormCause, IsFormFile, IsIntervals}
 use Rattle.ffc.specs.Words.{compile_words, assemble_words}
-use Rattle.ffc.specs.declared.outcome.Outcome.{Outcome}
-use Rattle.ffc.specs.declared.outcome.Outcome.TheVariants.{Done, Usage, WriteFault, Memory}
+use Rattle.answers.specs.declared.outcome.Outcome.{Outcome}
+use Rattle.answers.specs.declared.outcome.Outcome.TheVariants.{Done, Usage, WriteFault, Memory}
 
 -- ---- answers
 

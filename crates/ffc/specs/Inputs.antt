@@ -1,19 +1,19 @@
 -- The form and the mesh that the files hold, and why there is none
-use Rattle.std.specs.Prelude.{◌≡◌, ◌≢◌, ◌⊎◌, ◌<◌, ◌≤◌, ℕ, List, Option, Some, None, Ok, Err, length}
+use Rattle.std.specs.Prelude.{◌≡◌, ◌⊎◌, ◌<◌, ◌≤◌, ℕ, List, Option, Some, None, Ok, Err, length}
 use Rattle.algebra.specs.Fraction.{Fraction}
 use Rattle.ends.specs.Count.{Rises}
 use Rattle.ends.specs.Held.{Held, bytes_of}
+use Rattle.slices.specs.declared.form_toks.TheConstants.{FORM_LIMIT}
 use Rattle.spaces.specs.declared.cell.Cell.TheVariants.{Interval}
 use Rattle.mesh_in.specs.MeshData.{MeshData}
 use Rattle.mesh_in.specs.MeshText.{meaning}
-use Rattle.mesh_in.specs.declared.refusal.MeshKind.TheVariants as mesh
 use Rattle.mesh_in.specs.declared.refusal.MeshRefusal.{MeshRefusal}
 use Rattle.ffc.specs.FormFile.{IsForm, IsNoForm, IsOff}
-use Rattle.mesh_in.specs.HeaderLine.{header_line}
-use Rattle.ffc.specs.declared.outcome.FormKind.{FormKind}
-use Rattle.ffc.specs.declared.outcome.FormKind.TheVariants as form
-use Rattle.ffc.specs.declared.outcome.Outcome.{Outcome}
-use Rattle.ffc.specs.declared.outcome.Outcome.TheVariants.{Form, Mesh, ReadFault, Memory}
+use Rattle.mesh_in.specs.HeaderLine.{IsWrongCell}
+use Rattle.answers.specs.declared.outcome.FormKind.{FormKind}
+use Rattle.answers.specs.declared.outcome.FormKind.TheVariants as form
+use Rattle.answers.specs.declared.outcome.Outcome.{Outcome}
+use Rattle.answers.specs.declared.outcome.Outcome.TheVariants.{Form, Mesh, ReadFault, Memory}
 
 -- ---- files
 
@@ -40,12 +40,9 @@ LoadCause l file name _ = ⊥
 
 -- ---- the form: file 1
 
-abbrev pub form_limit : ℕ
-form_limit = 262144
-
 -- a form that can be compiled, with this factor, in a file that isn't too long
 pub record IsFormFile (text : List ℕ) (c : Fraction) : Type 0 where
-  pub short : length text ≤ form_limit
+  pub short : length text ≤ FORM_LIMIT
   pub states : IsForm text c
 
 -- the file with this name is such a form, with this factor and no other
@@ -54,8 +51,8 @@ HasForm content name c = (text : List ℕ) × IsText content name text × IsForm
 
 -- when a form is refused: it is too long, or else no form that can be compiled, and this line isn't as it is required
 abbrev pub FormRefuses : FormKind → ℕ → List ℕ → Type 0
-FormRefuses form.TooLong line text = (form_limit < length text) × (line ≡ 0)
-FormRefuses form.NotYet line text = (length text ≤ form_limit) × IsNoForm text × IsOff line text
+FormRefuses form.TooLong line text = (FORM_LIMIT < length text) × (line ≡ 0)
+FormRefuses form.NotYet line text = (length text ≤ FORM_LIMIT) × IsNoForm text × IsOff line text
 
 -- why there is no form
 abbrev pub FormCause : Loads → List ℕ → Outcome → Type 0
@@ -71,13 +68,9 @@ IsIntervals text m = (meaning text ≡ Ok m) × (m.kind ≡ Interval)
 abbrev pub HasMesh : Option (List Held) → List ℕ → MeshData Fraction → Type 0
 HasMesh content name m = (text : List ℕ) × IsText content name text × IsIntervals text m
 
--- the text stands for a mesh of other cells, and this is the line of its header
-abbrev pub IsWrongCell : List ℕ → MeshRefusal → Type 0
-IsWrongCell text r = (m : MeshData Fraction) × (meaning text ≡ Ok m) × (m.kind ≢ Interval) × (r.kind ≡ mesh.WrongCell) × (r.line ≡ header_line text)
-
 -- when a mesh is refused: by its text, or for its cells
 abbrev pub MeshRefuses : MeshRefusal → List ℕ → Type 0
-MeshRefuses r text = (meaning text ≡ Err r) ⊎ IsWrongCell text r
+MeshRefuses r text = (meaning text ≡ Err r) ⊎ IsWrongCell Interval text r
 
 -- why there is no mesh
 abbrev pub MeshCause : Loads → List ℕ → Outcome → Type 0

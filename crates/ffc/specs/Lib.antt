@@ -1,9 +1,6 @@
-pub mod Outcome
 pub mod Words
 pub mod FormFile
-pub mod Text
 pub mod Unit
-pub mod Lines
 pub mod Inputs
 pub mod Assemble
 pub mod Compile

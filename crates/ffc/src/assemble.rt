@@ -5,8 +5,7 @@ ghost use Rattle.ffc.specs.Assemble.{AssembleCause, IsMatrixText};
 
 use crate::inputs::{load_form, load_mesh};
 use crate::matrix::mass_matrix;
-use crate::outcome::Outcome;
-use crate::output::push_matrix;
+use answers::{Outcome, push_matrix};
 use assembly::Rows;
 use ends::files::Files;
 use std::alloc::Global;

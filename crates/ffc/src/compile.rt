@@ -5,7 +5,7 @@ ghost use Rattle.ffc.specs.Compile.{IsUnitText};
 
 use crate::inputs::load_form;
 use crate::matrix::mass_unit;
-use crate::outcome::Outcome;
+use answers::Outcome;
 use c_text::print_unit;
 use ends::files::Files;
 use std::alloc::Global;

@@ -7,18 +7,13 @@ ghost use Rattle.form_values.specs.Shares.{IsIntervalMesh};
 ghost use Rattle.ffc.specs.Inputs.{loads, IsText, LoadCause, HasForm, FormCause, HasMesh, MeshCause};
 
 use crate::form_file::read_form;
-use crate::outcome::{FormKind, FormRefusal, Outcome};
+use answers::{FormKind, FormRefusal, Outcome};
 use ends::files::{Files, LoadError};
-use mesh_in::{Mesh, MeshKind, MeshRefusal, header_line, read_mesh};
+use mesh_in::{Mesh, read_mesh_of};
 use ratio::Ratio;
+use slices::FORM_LIMIT;
 use spaces::Cell;
 use std::alloc::Global;
-
-/// The most bytes of a form file.
-const FORM_LIMIT: u32 = 262_144;
-
-/// The most bytes of a mesh file.
-const MESH_LIMIT: u32 = 67_108_864;
 
 // The bytes of a file, with one more than the limit at most: that one says that it is too long.
 fn load<F: Files>(
@@ -74,17 +69,9 @@ pub fn load_mesh<F: Files>(alloc: Global, files: &mut F, name: &str) -> Result<M
     ensures cause { IfErr result (MeshCause (loads (F.content files.old) (F.faults files.old)
         (F.faults files.new) (F.last_failed files.new)) name.now) }
 {
-    let text = load(alloc, files, name, MESH_LIMIT, 2)?;
-    let mesh = match read_mesh(alloc, text.as_slice()) {
-        Ok(mesh) => mesh,
-        Err(refusal) => return Err(Outcome::from(refusal)),
-    };
-    match mesh.kind() {
-        Cell::Interval => Ok(mesh),
-        _ => Err(Outcome::Mesh(MeshRefusal {
-            kind: MeshKind::WrongCell,
-            line: header_line(text.as_slice()),
-            cell: 0,
-        })),
+    let text = load(alloc, files, name, mesh_in::LIMIT, 2)?;
+    match read_mesh_of(alloc, Cell::Interval, text.as_slice()) {
+        Ok(mesh) => Ok(mesh),
+        Err(refusal) => Err(Outcome::from(refusal)),
     }
 }

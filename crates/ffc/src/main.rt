@@ -8,10 +8,7 @@ mod command;
 mod compile;
 mod form_file;
 mod inputs;
-mod lines;
 mod matrix;
-mod outcome;
-mod output;
 mod program;
 #[cfg(test)]
 mod tests;

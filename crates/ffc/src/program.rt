@@ -4,14 +4,13 @@ ghost use Rattle.ends.specs.Count.{Rises};
 ghost use Rattle.ffc.specs.Words.{HaveNoShape, texts};
 ghost use Rattle.ffc.specs.Command.{words_of};
 ghost use Rattle.ffc.specs.Inputs.{loads};
-ghost use Rattle.ffc.specs.Lines.{Says};
+ghost use Rattle.answers.specs.Lines.{Says};
 ghost use Rattle.ffc.specs.Answer.{AnswersWords, Wrote, IsRefusal, HasCause, IsCaused, IsComplete};
 
 use crate::assemble::assemble;
 use crate::command::{Command, read_command};
 use crate::compile::compile;
-use crate::lines::put_outcome;
-use crate::outcome::Outcome;
+use answers::{Outcome, put_outcome};
 use ends::files::Files;
 use ends::sink::Sink;
 use std::alloc::Global;

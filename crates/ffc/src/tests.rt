@@ -1,6 +1,6 @@
 //! Runs of the program over files and sinks in memory.
-use crate::outcome::Outcome;
 use crate::program::program;
+use answers::Outcome;
 use c_run::{Machine, Ret};
 use c_text::read_unit;
 use ends::mem_files::{MemFile, MemFiles};

@@ -3,17 +3,11 @@ use Rattle.std.proofs.Common.{◌≡◌, ◌≢◌, ℕ, zero, suc, ◌+◌, ◌
 use Rattle.std.specs.Prelude.{slice_get}
 use Rattle.std.proofs.Math.Dec.{eqb}
 use Rattle.std.proofs.lemmas.Bool.Decides.{eqb_tells}
+use Rattle.dofs.proofs.Lists.{same_some}
 use Rattle.assembly.specs.Rows.{occurs, rows_below}
+use Rattle.form_values.proofs.Lists.{get_left}
 
 -- ---- places in lists
-some_same : {A : Type 0} (x y : A) → Some x ≡ Some y → x ≡ y
-some_same x y e = cc
-
-pub get-append_left : {A : Type 0} (xs ys : List A) (i : ℕ) (v : A) → slice_get xs i ≡ Some v → slice_get (xs ++ ys) i ≡ Some v
-get-append_left [] ys i v h = cc
-get-append_left (x ∷ xs) ys zero v h = h
-get-append_left (x ∷ xs) ys (suc i) v h = get-append_left xs ys i v h
-
 pub get-append_seam : {A : Type 0} (xs : List A) (v : A) → slice_get (xs ++ v ∷ []) (length xs) ≡ Some v
 get-append_seam [] v = refl
 get-append_seam (x ∷ xs) v = get-append_seam xs v
@@ -22,7 +16,7 @@ no_item : {A : Type 0} (i : ℕ) (v : A) → slice_get [] i ≡ Some v → ⊥
 no_item i v h = cc
 
 one_item : {A : Type 0} (w : A) (i : ℕ) (v : A) → slice_get (w ∷ []) i ≡ Some v → (i ≡ 0) × (v ≡ w)
-one_item w zero v h = (refl, sym (some_same w v h))
+one_item w zero v h = (refl, sym (same_some w v h))
 one_item w (suc i) v h = cc
 
 -- an item of two lists is one of the first, or at the place that comes then
@@ -66,7 +60,7 @@ row_found cells (suc k) v h o = go (at_or_below v k h) (λ below. row_found cell
 
     go : (v < k) ⊎ (v ≡ k) → (v < k → slice_get (rows_below cells k) (length (rows_below cells v)) ≡ Some v)
         → slice_get (rows_below cells k ++ (if occurs cells k then k ∷ [] else [])) (length (rows_below cells v)) ≡ Some v
-    go (inl below) rest = get-append_left (rows_below cells k) _ _ v (rest below)
+    go (inl below) rest = get_left (rows_below cells k) _ _ v (rest below)
     go (inr e) rest =
         subst (λ w. slice_get (rows_below cells k ++ (if occurs cells k then k ∷ [] else [])) (length (rows_below cells w)) ≡ Some w) (sym e)
         (here (occurs cells k) (subst (λ w. occurs cells w ≡ true) e o))

@@ -9,13 +9,15 @@ use Rattle.spaces.specs.Cell.{dimension}
 use Rattle.mesh_in.specs.declared.header.Header.{Header}
 use Rattle.mesh_in.specs.declared.refusal.MeshKind.{MeshKind}
 use Rattle.mesh_in.specs.declared.refusal.MeshKind.TheVariants.{Lex, Syntax, VertexRange, RepeatedVertex}
+use Rattle.mesh_in.specs.CellLine.{cell_size, vertices_in, IsCellLine}
 use Rattle.mesh_in.specs.Line.{content, has_plain_bytes, words}
 use Rattle.mesh_in.specs.Number.{number_of}
 use Rattle.mesh_in.specs.NumberReading.{coordinate_of}
-use Rattle.mesh_in.specs.MeshData.{IsCell, are_below, is_distinct}
+use Rattle.mesh_in.specs.MeshData.{are_below, is_distinct}
 use Rattle.mesh_in.specs.MeshText.{Said, begun, row, after_point, after_cell, after_row, after_words, after_line}
 use Rattle.mesh_in.specs.Options.{◌>>=◌}
 use Rattle.mesh_in.specs.MeshGrammar.{word_lines, StandsFor, IsNatural, IsRow}
+use Rattle.mesh_in.proofs.CellLineLemmas.{line_of_cell}
 use Rattle.mesh_in.proofs.NumberTextLemmas.{number_again, number_is}
 
 -- ---- one row
@@ -108,8 +110,8 @@ pub record Adds (h : Header) (points : List (List Fraction)) (cells : List (List
   pub cell_lines : List (List (List ℕ))
   pub lines_are : word_lines ls ≡ point_lines ++ cell_lines
   pub are_points : AllZip (IsRow StandsFor (dimension h.kind)) point_lines more_points
-  pub are_cells : AllZip (IsRow IsNatural (dimension h.kind + 1)) cell_lines more_cells
-  pub lawful : AllByRecursion (IsCell (dimension h.kind) h.vertices) more_cells
+  pub are_cells : AllZip (IsRow IsNatural (cell_size h)) cell_lines more_cells
+  pub lawful : AllByRecursion (IsCellLine h) more_cells
   pub few_points : length (points ++ more_points) ≤ h.vertices
   pub few_cells : length (cells ++ more_cells) ≤ h.cells
   pub in_order : (cell_lines ≡ []) ⊎ (length (points ++ more_points) ≡ h.vertices)
@@ -194,7 +196,7 @@ no_lines_of R (l ∷ ls) [] each none = absurd each
 no_lines_of R (l ∷ ls) (x ∷ xs) each none = absurd (omega arith)
 
 after_a_cell : (h : Header) (points : List (List Fraction)) (cells : List (List ℕ)) (line : List ℕ) (more : List (List ℕ)) (w : List ℕ) (ws : List (List ℕ)) (cell : List ℕ) (t : Said)
-    → length points ≡ h.vertices → has_plain_bytes line ≡ true → words (content line) ≡ w ∷ ws → IsRow IsNatural (dimension h.kind + 1) (w ∷ ws) cell → IsCell (dimension h.kind) h.vertices cell
+    → length points ≡ h.vertices → has_plain_bytes line ≡ true → words (content line) ≡ w ∷ ws → IsRow IsNatural (cell_size h) (w ∷ ws) cell → IsCellLine h cell
     → Added h points (cells ++ cell ∷ []) more t → Added h points cells (line ∷ more) t
 after_a_cell h points cells line more w ws cell t full plain some is_row is_cell a =
     let b = a.adds in
@@ -225,9 +227,9 @@ point_said : (h : Header) (points : List (List Fraction)) (cells : List (List �
 point_said h points cells ws None s is e = absurd cc
 point_said h points cells ws (Some point) s is e = (point, row_related coordinate_of StandsFor fractions_of (dimension h.kind) ws point is, sym (said_is (begun h (points ++ point ∷ []) cells) s e))
 
-cell_is : (h : Header) (points : List (List Fraction)) (cells : List (List ℕ)) (cell : List ℕ) (s : Said) (below distinct : Bool) → length cell ≡ dimension h.kind + 1 → are_below h.vertices cell ≡ below → is_distinct cell ≡ distinct
-    → cond below (cond distinct (Ok (begun h points (cells ++ cell ∷ []))) (Err RepeatedVertex)) (Err VertexRange) ≡ Ok s → IsCell (dimension h.kind) h.vertices cell × (s ≡ begun h points (cells ++ cell ∷ []))
-cell_is h points cells cell s true true size is_below is_distinct e = (record { size = size; in_range = is_below; distinct = is_distinct }, sym (said_is (begun h points (cells ++ cell ∷ [])) s e))
+cell_is : (h : Header) (points : List (List Fraction)) (cells : List (List ℕ)) (cell : List ℕ) (s : Said) (below distinct : Bool) → length cell ≡ cell_size h → are_below h.vertices (vertices_in h.kind cell) ≡ below → is_distinct (vertices_in h.kind cell) ≡ distinct
+    → cond below (cond distinct (Ok (begun h points (cells ++ cell ∷ []))) (Err RepeatedVertex)) (Err VertexRange) ≡ Ok s → IsCellLine h cell × (s ≡ begun h points (cells ++ cell ∷ []))
+cell_is h points cells cell s true true size is_below is_distinct e = (line_of_cell h cell size is_below is_distinct, sym (said_is (begun h points (cells ++ cell ∷ [])) s e))
 cell_is h points cells cell s true false size is_below is_distinct e = absurd cc
 cell_is h points cells cell s false distinct size is_below is_distinct e = absurd cc
 
@@ -237,26 +239,26 @@ size_of_row R [] (x ∷ xs) each = absurd each
 size_of_row R (w ∷ ws) [] each = absurd each
 size_of_row R (w ∷ ws) (x ∷ xs) each = ap suc (size_of_row R ws xs each.1)
 
-cell_said : (h : Header) (points : List (List Fraction)) (cells : List (List ℕ)) (ws : List (List ℕ)) (o : Option (List ℕ)) (s : Said) → row number_of (dimension h.kind + 1) ws ≡ o → after_cell h points cells o ≡ Ok s
-    → (cell : List ℕ) × IsRow IsNatural (dimension h.kind + 1) ws cell × IsCell (dimension h.kind) h.vertices cell × (s ≡ begun h points (cells ++ cell ∷ []))
+cell_said : (h : Header) (points : List (List Fraction)) (cells : List (List ℕ)) (ws : List (List ℕ)) (o : Option (List ℕ)) (s : Said) → row number_of (cell_size h) ws ≡ o → after_cell h points cells o ≡ Ok s
+    → (cell : List ℕ) × IsRow IsNatural (cell_size h) ws cell × IsCellLine h cell × (s ≡ begun h points (cells ++ cell ∷ []))
 cell_said h points cells ws None s is e = absurd cc
 cell_said h points cells ws (Some cell) s is e =
-    let r = row_related number_of IsNatural naturals (dimension h.kind + 1) ws cell is in
-    let p = cell_is h points cells cell s (are_below h.vertices cell) (is_distinct cell) (size_of_row IsNatural ws cell r.each ∙ r.all) refl refl e in
+    let r = row_related number_of IsNatural naturals (cell_size h) ws cell is in
+    let p = cell_is h points cells cell s (are_below h.vertices (vertices_in h.kind cell)) (is_distinct (vertices_in h.kind cell)) (size_of_row IsNatural ws cell r.each ∙ r.all) refl refl e in
     (cell, r, p.0, p.1)
 
 -- which of the two it is
 pub data Said_row (h : Header) (points : List (List Fraction)) (cells : List (List ℕ)) (ws : List (List ℕ)) (s : Said) : Type 0 where
   a_point : (point : List Fraction) → length points < h.vertices → IsRow StandsFor (dimension h.kind) ws point → s ≡ begun h (points ++ point ∷ []) cells → Said_row h points cells ws s
-  a_cell : (cell : List ℕ) → h.vertices ≤ length points → length cells < h.cells → IsRow IsNatural (dimension h.kind + 1) ws cell → IsCell (dimension h.kind) h.vertices cell → s ≡ begun h points (cells ++ cell ∷ []) → Said_row h points cells ws s
+  a_cell : (cell : List ℕ) → h.vertices ≤ length points → length cells < h.cells → IsRow IsNatural (cell_size h) ws cell → IsCellLine h cell → s ≡ begun h points (cells ++ cell ∷ []) → Said_row h points cells ws s
 
 row_is : (h : Header) (points : List (List Fraction)) (cells : List (List ℕ)) (ws : List (List ℕ)) (s : Said) (wants_point wants_cell : Bool) → ltb (length points) h.vertices ≡ wants_point → ltb (length cells) h.cells ≡ wants_cell
-    → cond wants_point (after_point h points cells (row coordinate_of (dimension h.kind) ws)) (cond wants_cell (after_cell h points cells (row number_of (dimension h.kind + 1) ws)) (Err Syntax)) ≡ Ok s → Said_row h points cells ws s
+    → cond wants_point (after_point h points cells (row coordinate_of (dimension h.kind) ws)) (cond wants_cell (after_cell h points cells (row number_of (cell_size h) ws)) (Err Syntax)) ≡ Ok s → Said_row h points cells ws s
 row_is h points cells ws s true wants_cell is_point is_cell e =
     let p = point_said h points cells ws (row coordinate_of (dimension h.kind) ws) s refl e in
     a_point p.0 (ltb-true (length points) h.vertices is_point) p.1 p.2
 row_is h points cells ws s false true is_point is_cell e =
-    let p = cell_said h points cells ws (row number_of (dimension h.kind + 1) ws) s refl e in
+    let p = cell_said h points cells ws (row number_of (cell_size h) ws) s refl e in
     a_cell p.0 (ltb-false (length points) h.vertices is_point) (ltb-true (length cells) h.cells is_cell) p.1 p.2 p.3
 row_is h points cells ws s false false is_point is_cell e = absurd cc
 
@@ -309,11 +311,11 @@ point_again : (h : Header) (points : List (List Fraction)) (cells : List (List �
 unfolding after_row
 point_again h points cells ws point lt r = rw (lt-ltb (length points) h.vertices lt, row_again coordinate_of StandsFor fractions_of (dimension h.kind) ws point r.all r.each) refl
 
-cell_again : (h : Header) (points : List (List Fraction)) (cells : List (List ℕ)) (ws : List (List ℕ)) (cell : List ℕ) → length points ≡ h.vertices → length cells < h.cells → IsRow IsNatural (dimension h.kind + 1) ws cell → IsCell (dimension h.kind) h.vertices cell
+cell_again : (h : Header) (points : List (List Fraction)) (cells : List (List ℕ)) (ws : List (List ℕ)) (cell : List ℕ) → length points ≡ h.vertices → length cells < h.cells → IsRow IsNatural (cell_size h) ws cell → IsCellLine h cell
     → after_row (begun h points cells) ws ≡ Ok (begun h points (cells ++ cell ∷ []))
 unfolding after_row
 cell_again h points cells ws cell full lt r good =
-    rw (le-ltb (length points) h.vertices (omega arith), lt-ltb (length cells) h.cells lt, row_again number_of IsNatural naturals (dimension h.kind + 1) ws cell r.all r.each, good.in_range, good.distinct) refl
+    rw (le-ltb (length points) h.vertices (omega arith), lt-ltb (length cells) h.cells lt, row_again number_of IsNatural naturals (cell_size h) ws cell r.all r.each, good.cell.in_range, good.cell.distinct) refl
 
 pub first_is : {A : Type 0} (x y : A) (xs ys : List A) → x ∷ xs ≡ y ∷ ys → (x ≡ y) × (xs ≡ ys)
 first_is x y xs ys e = (cc, cc)
@@ -324,7 +326,7 @@ Says_added h more = (points : List (List Fraction)) (cells : List (List ℕ)) (m
 
 row_says : (line : List ℕ) (more : List (List ℕ)) (w : List ℕ) (ws : List (List ℕ)) (h : Header) (points : List (List Fraction)) (cells : List (List ℕ)) (point_lines cell_lines : List (List (List ℕ))) (more_points : List (List Fraction)) (more_cells : List (List ℕ))
     → Says_added h more → has_plain_bytes line ≡ true → AllByRecursion (λ line. has_plain_bytes line ≡ true) more → words (content line) ≡ w ∷ ws → (w ∷ ws) ∷ word_lines more ≡ point_lines ++ cell_lines
-    → AllZip (IsRow StandsFor (dimension h.kind)) point_lines more_points → AllZip (IsRow IsNatural (dimension h.kind + 1)) cell_lines more_cells → AllByRecursion (IsCell (dimension h.kind) h.vertices) more_cells
+    → AllZip (IsRow StandsFor (dimension h.kind)) point_lines more_points → AllZip (IsRow IsNatural (cell_size h)) cell_lines more_cells → AllByRecursion (IsCellLine h) more_cells
     → length (points ++ more_points) ≤ h.vertices → length (cells ++ more_cells) ≤ h.cells → (cell_lines ≡ []) ⊎ (length (points ++ more_points) ≡ h.vertices)
     → said_by (begun h points cells) (line ∷ more) ≡ Ok (begun h (points ++ more_points) (cells ++ more_cells))
 row_says line more w ws h points cells [] [] more_points more_cells later plain rest some are zip_points zip_cells lawful few_points few_cells order = absurd cc
@@ -336,7 +338,7 @@ row_says line more w ws h points cells [] (l ∷ ls) [] (d ∷ ds) later plain r
     let room : length cells < h.cells = omega (arith, few_cells, length-append cells (d ∷ ds)) in
     goes_on (begun h points cells) (begun h points (cells ++ d ∷ [])) (begun h (points ++ []) (cells ++ d ∷ ds)) line more
     (line_again (begun h points cells) (begun h points (cells ++ d ∷ [])) line w ws plain some
-    (cell_again h points cells (w ∷ ws) d full room (subst (λ l. IsRow IsNatural (dimension h.kind + 1) l d) (sym p.0) zip_cells.0) lawful.0))
+    (cell_again h points cells (w ∷ ws) d full room (subst (λ l. IsRow IsNatural (cell_size h) l d) (sym p.0) zip_cells.0) lawful.0))
     (later points (cells ++ d ∷ []) [] ds (record {
       plain = rest;
       point_lines = [];
@@ -389,7 +391,7 @@ line_says line more (w ∷ ws) h points cells more_points more_cells later are a
     row_says line more w ws h points cells a.point_lines a.cell_lines more_points more_cells later a.plain.0 a.plain.1 are (sym (lines_of_row line more w ws are) ∙ a.lines_are) a.are_points a.are_cells a.lawful a.few_points a.few_cells a.in_order
 
 no_lines_say : (h : Header) (points : List (List Fraction)) (cells : List (List ℕ)) (point_lines cell_lines : List (List (List ℕ))) (more_points : List (List Fraction)) (more_cells : List (List ℕ)) → [] ≡ point_lines ++ cell_lines
-    → AllZip (IsRow StandsFor (dimension h.kind)) point_lines more_points → AllZip (IsRow IsNatural (dimension h.kind + 1)) cell_lines more_cells → done (begun h points cells) ≡ Ok (begun h (points ++ more_points) (cells ++ more_cells))
+    → AllZip (IsRow StandsFor (dimension h.kind)) point_lines more_points → AllZip (IsRow IsNatural (cell_size h)) cell_lines more_cells → done (begun h points cells) ≡ Ok (begun h (points ++ more_points) (cells ++ more_cells))
 no_lines_say h points cells [] [] [] [] are zip_points zip_cells = rw (append-nil points, append-nil cells) refl
 no_lines_say h points cells [] [] (q ∷ qs) more_cells are zip_points zip_cells = absurd zip_points
 no_lines_say h points cells [] [] [] (d ∷ ds) are zip_points zip_cells = absurd zip_cells

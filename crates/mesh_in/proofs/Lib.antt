@@ -1,3 +1,4 @@
+pub mod CellLineLemmas
 pub mod FieldLemmas
 pub mod GrammarLaws
 pub mod HeaderLaws

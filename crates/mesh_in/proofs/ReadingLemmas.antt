@@ -4,7 +4,7 @@ use Rattle.std.specs.Str.Lines.{lines}
 use Rattle.std.proofs.lemmas.Bool.{eqb-true, le-leb, lt-leb}
 use Rattle.mesh_in.specs.declared.refusal.MeshKind.TheVariants.{TooLong, Lex}
 use Rattle.mesh_in.specs.Line.{content, has_plain_bytes, is_some_word, words}
-use Rattle.mesh_in.specs.MeshText.{Said, nothing, complete, after_row, after_words, at_line, reading, meaning}
+use Rattle.mesh_in.specs.MeshText.{Said, nothing, complete, after_row, after_words, at_line, reading, meaning, longest}
 use Rattle.mesh_in.specs.Refusal.{refusal}
 
 no_word : (ws : List (List ℕ)) → is_some_word ws ≡ false → ws ≡ []
@@ -37,10 +37,10 @@ unfolding reading
 no_lines n said [] none = refl
 no_lines n said (b ∷ bytes) none = absurd (omega (arith, eqb-true (length (b ∷ bytes)) 0 none))
 
-pub long_text : (text : List ℕ) → 67108864 < length text → meaning text ≡ Err (refusal TooLong 0)
+pub long_text : (text : List ℕ) → longest < length text → meaning text ≡ Err (refusal TooLong 0)
 unfolding meaning
-long_text text lt = rw (lt-leb (length text) 67108864 lt) refl
+long_text text lt = rw (lt-leb (length text) longest lt) refl
 
-pub short_text : (text : List ℕ) → length text ≤ 67108864 → meaning text ≡ reading 0 nothing (lines text)
+pub short_text : (text : List ℕ) → length text ≤ longest → meaning text ≡ reading 0 nothing (lines text)
 unfolding meaning
-short_text text le = rw (le-leb (length text) 67108864 le) refl
+short_text text le = rw (le-leb (length text) longest le) refl

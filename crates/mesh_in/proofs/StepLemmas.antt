@@ -14,13 +14,15 @@ use Rattle.mesh_in.specs.declared.header.Header.{Header}
 use Rattle.mesh_in.specs.declared.refusal.MeshKind.{MeshKind}
 use Rattle.mesh_in.specs.declared.refusal.MeshRefusal.{MeshRefusal}
 use Rattle.mesh_in.specs.declared.refusal.MeshKind.TheVariants.{Syntax}
+use Rattle.mesh_in.specs.CellLine.{cell_size, vertices_in, IsCellLine}
 use Rattle.mesh_in.specs.Number.{number_of}
 use Rattle.mesh_in.specs.NumberReading.{coordinate_of}
-use Rattle.mesh_in.specs.MeshData.{MeshData, IsCell, are_below, is_distinct, fractions, rows}
-use Rattle.mesh_in.specs.MeshText.{row, Said, nothing, begun, after_header, header_of, after_cell, after_row, at_line, complete, IsOpen}
+use Rattle.mesh_in.specs.MeshData.{MeshData, are_below, is_distinct, fractions, rows}
+use Rattle.mesh_in.specs.MeshText.{row, Said, nothing, begun, after_header, header_of, after_cell, after_row, at_line, mesh_of, complete, IsOpen}
 use Rattle.mesh_in.specs.Options.{◌>>=◌}
 use Rattle.mesh_in.specs.Reader.{appended, points_of, IsRefusedBy}
 use Rattle.mesh_in.specs.Storage.{stored}
+use Rattle.mesh_in.proofs.CellLineLemmas.{line_of_cell}
 use Rattle.mesh_in.proofs.RowLemmas.{length-rows, rows_push, map-rows}
 
 -- what was appended
@@ -45,12 +47,17 @@ length-row of (suc n) (w ∷ ws) xs e =
     let q = bind_some (row of n ws) (λ ys. Some (p.0 ∷ ys)) xs p.2 in
     ap length (sym (some_is (p.0 ∷ q.0) xs q.2)) ∙ ap suc (length-row of n ws q.0 q.1)
 
-pub cell_pushed : (d count : ℕ) (old new part : List ℕ) (ws : List (List ℕ)) → appended old (row number_of (d + 1) ws) ≡ Some new → part ≡ drop (length old) new → are_below count part ≡ true → is_distinct part ≡ true
-    → (cell : List ℕ) × (new ≡ old ++ cell) × IsCell d count cell × (row number_of (d + 1) ws ≡ Some cell)
-cell_pushed d count old new part ws appends is_part below distinct =
-    let p = added old new (row number_of (d + 1) ws) appends in
-    let e : part ≡ p.0 = is_part ∙ ap (drop (length old)) p.2 ∙ drop-append_seam old p.0 in
-    (p.0, p.2, record { size = length-row number_of (d + 1) ws p.0 p.1; in_range = subst (λ c. are_below count c ≡ true) e below; distinct = subst (λ c. is_distinct c ≡ true) e distinct }, p.1)
+pub cell_pushed : (h : Header) (old new vertices : List ℕ) (ws : List (List ℕ)) → appended old (row number_of (cell_size h) ws) ≡ Some new → vertices ≡ vertices_in h.kind (drop (length old) new)
+    → are_below h.vertices vertices ≡ true → is_distinct vertices ≡ true → (cell : List ℕ) × (new ≡ old ++ cell) × IsCellLine h cell × (row number_of (cell_size h) ws ≡ Some cell)
+cell_pushed h old new vertices ws appends are below distinct =
+    let p = added old new (row number_of (cell_size h) ws) appends in
+    let e : vertices ≡ vertices_in h.kind p.0 = are ∙ ap (vertices_in h.kind) (ap (drop (length old)) p.2 ∙ drop-append_seam old p.0) in
+    (p.0, p.2, line_of_cell h p.0 (length-row number_of (cell_size h) ws p.0 p.1) (subst (λ c. are_below h.vertices c ≡ true) e below) (subst (λ c. is_distinct c ≡ true) e distinct), p.1)
+
+pub length-read : (h : Header) (old new : List ℕ) (ws : List (List ℕ)) → appended old (row number_of (cell_size h) ws) ≡ Some new → length (drop (length old) new) ≡ cell_size h
+length-read h old new ws appends =
+    let p = added old new (row number_of (cell_size h) ws) appends in
+    ap length (ap (drop (length old)) p.2 ∙ drop-append_seam old p.0) ∙ length-row number_of (cell_size h) ws p.0 p.1
 
 -- ---- points
 
@@ -96,58 +103,58 @@ next_point h count old new ws lt fit appends =
 -- ---- cells
 
 -- after all points and so many cells, of which more must come
-pub open_cells : (h : Header) (points : List (List Fraction)) (count : ℕ) (corners : List ℕ) → length points ≡ h.vertices → count < h.cells → IsOpen (begun h points (rows (dimension h.kind + 1) count corners))
-open_cells h points count corners all lt number =
-    rw (ne_eqb (length (rows (dimension h.kind + 1) count corners)) h.cells (λ e. omega (arith, length-rows (dimension h.kind + 1) count corners)), and-false (eqb (length points) h.vertices)) refl
+pub open_cells : (h : Header) (points : List (List Fraction)) (count : ℕ) (numbers : List ℕ) → length points ≡ h.vertices → count < h.cells → IsOpen (begun h points (rows (cell_size h) count numbers))
+open_cells h points count numbers all lt number =
+    rw (ne_eqb (length (rows (cell_size h) count numbers)) h.cells (λ e. omega (arith, length-rows (cell_size h) count numbers)), and-false (eqb (length points) h.vertices)) refl
 
-pub at_cell : (h : Header) (points : List (List Fraction)) (count : ℕ) (corners : List ℕ) (ws : List (List ℕ)) → length points ≡ h.vertices → count < h.cells
-    → after_row (begun h points (rows (dimension h.kind + 1) count corners)) ws ≡ after_cell h points (rows (dimension h.kind + 1) count corners) (row number_of (dimension h.kind + 1) ws)
+pub at_cell : (h : Header) (points : List (List Fraction)) (count : ℕ) (numbers : List ℕ) (ws : List (List ℕ)) → length points ≡ h.vertices → count < h.cells
+    → after_row (begun h points (rows (cell_size h) count numbers)) ws ≡ after_cell h points (rows (cell_size h) count numbers) (row number_of (cell_size h) ws)
 unfolding after_row
-at_cell h points count corners ws all lt =
-    rw (le-ltb (length points) h.vertices (omega arith), lt-ltb (length (rows (dimension h.kind + 1) count corners)) h.cells (omega (arith, length-rows (dimension h.kind + 1) count corners))) refl
+at_cell h points count numbers ws all lt =
+    rw (le-ltb (length points) h.vertices (omega arith), lt-ltb (length (rows (cell_size h) count numbers)) h.cells (omega (arith, length-rows (cell_size h) count numbers))) refl
 
 all_push : {A : Type 0} (P : A → Type 0) (xs : List A) (x : A) → AllByRecursion P xs → P x → AllByRecursion P (xs ++ x ∷ [])
 all_push P [] x all here = (here, tt)
 all_push P (y ∷ ys) x all here = (all.0, all_push P ys x all.1 here)
 
 pub record NextCell (h : Header) (count : ℕ) (old new : List ℕ) (ws : List (List ℕ)) : Type 0 where
-  pub fit : length new ≡ (count + 1) * (dimension h.kind + 1)
-  pub cells : AllByRecursion (IsCell (dimension h.kind) h.vertices) (rows (dimension h.kind + 1) (count + 1) new)
-  pub says : (points : List (List Fraction)) → length points ≡ h.vertices → after_row (begun h points (rows (dimension h.kind + 1) count old)) ws ≡ Ok (begun h points (rows (dimension h.kind + 1) (count + 1) new))
+  pub fit : length new ≡ (count + 1) * cell_size h
+  pub cells : AllByRecursion (IsCellLine h) (rows (cell_size h) (count + 1) new)
+  pub says : (points : List (List Fraction)) → length points ≡ h.vertices → after_row (begun h points (rows (cell_size h) count old)) ws ≡ Ok (begun h points (rows (cell_size h) (count + 1) new))
 
-good_cell : (h : Header) (points : List (List Fraction)) (cells : List (List ℕ)) (cell : List ℕ) → IsCell (dimension h.kind) h.vertices cell → after_cell h points cells (Some cell) ≡ Ok (begun h points (cells ++ cell ∷ []))
-good_cell h points cells cell good = rw (good.in_range, good.distinct) refl
+good_cell : (h : Header) (points : List (List Fraction)) (cells : List (List ℕ)) (cell : List ℕ) → IsCellLine h cell → after_cell h points cells (Some cell) ≡ Ok (begun h points (cells ++ cell ∷ []))
+good_cell h points cells cell good = rw (good.cell.in_range, good.cell.distinct) refl
 
-pub next_cell : (h : Header) (count : ℕ) (old new cell : List ℕ) (ws : List (List ℕ)) → count < h.cells → length old ≡ count * (dimension h.kind + 1) → AllByRecursion (IsCell (dimension h.kind) h.vertices) (rows (dimension h.kind + 1) count old)
-    → new ≡ old ++ cell → IsCell (dimension h.kind) h.vertices cell → row number_of (dimension h.kind + 1) ws ≡ Some cell → NextCell h count old new ws
+pub next_cell : (h : Header) (count : ℕ) (old new cell : List ℕ) (ws : List (List ℕ)) → count < h.cells → length old ≡ count * cell_size h → AllByRecursion (IsCellLine h) (rows (cell_size h) count old)
+    → new ≡ old ++ cell → IsCellLine h cell → row number_of (cell_size h) ws ≡ Some cell → NextCell h count old new ws
 next_cell h count old new cell ws lt fit cells is_new good is_row =
-    let more : rows (dimension h.kind + 1) (count + 1) new ≡ rows (dimension h.kind + 1) count old ++ cell ∷ [] = ap (rows (dimension h.kind + 1) (count + 1)) is_new ∙ rows_push (dimension h.kind + 1) count old cell fit good.size in
+    let more : rows (cell_size h) (count + 1) new ≡ rows (cell_size h) count old ++ cell ∷ [] = ap (rows (cell_size h) (count + 1)) is_new ∙ rows_push (cell_size h) count old cell fit good.size in
     let sum : length new ≡ length old + length cell = ap length is_new ∙ length-append old cell in
     record {
-      fit = sum ∙ omega (arith, more_rows (dimension h.kind + 1) count, good.size);
-      cells = rw more (all_push (IsCell (dimension h.kind) h.vertices) (rows (dimension h.kind + 1) count old) cell cells good);
+      fit = sum ∙ omega (arith, more_rows (cell_size h) count, good.size);
+      cells = rw more (all_push (IsCellLine h) (rows (cell_size h) count old) cell cells good);
       says = λ points all.
-          at_cell h points count old ws all lt ∙ ap (after_cell h points (rows (dimension h.kind + 1) count old)) is_row ∙ good_cell h points (rows (dimension h.kind + 1) count old) cell good
+          at_cell h points count old ws all lt ∙ ap (after_cell h points (rows (cell_size h) count old)) is_row ∙ good_cell h points (rows (cell_size h) count old) cell good
           ∙ ap (λ cs. Ok (begun h points cs)) (sym more);
     }
 
 -- ---- the end
 
-pub nothing_more : (h : Header) (coordinates : List Ratio) (corners : List ℕ) (ws : List (List ℕ)) → after_row (begun h (points_of h h.vertices coordinates) (rows (dimension h.kind + 1) h.cells corners)) ws ≡ Err Syntax
+pub nothing_more : (h : Header) (coordinates : List Ratio) (numbers : List ℕ) (ws : List (List ℕ)) → after_row (begun h (points_of h h.vertices coordinates) (rows (cell_size h) h.cells numbers)) ws ≡ Err Syntax
 unfolding after_row
-nothing_more h coordinates corners ws =
+nothing_more h coordinates numbers ws =
     rw (
       le-ltb (length (points_of h h.vertices coordinates)) h.vertices (omega (arith, length-rows (dimension h.kind) h.vertices (map fraction_of coordinates))),
-      le-ltb (length (rows (dimension h.kind + 1) h.cells corners)) h.cells (omega (arith, length-rows (dimension h.kind + 1) h.cells corners)),
+      le-ltb (length (rows (cell_size h) h.cells numbers)) h.cells (omega (arith, length-rows (cell_size h) h.cells numbers)),
     ) refl
 
-pub finished : (h : Header) (coordinates : List Ratio) (corners : List ℕ) (number : ℕ) → complete number (begun h (points_of h h.vertices coordinates) (rows (dimension h.kind + 1) h.cells corners)) ≡ Ok (fractions (stored h.kind h.vertices h.cells coordinates corners))
-finished h coordinates corners number =
+pub finished : (h : Header) (coordinates : List Ratio) (numbers : List ℕ) (number : ℕ) → complete number (begun h (points_of h h.vertices coordinates) (rows (cell_size h) h.cells numbers)) ≡ Ok (fractions (stored h coordinates numbers))
+finished h coordinates numbers number =
     rw (
       eq-eqb (length (points_of h h.vertices coordinates)) h.vertices (length-rows (dimension h.kind) h.vertices (map fraction_of coordinates)),
-      eq-eqb (length (rows (dimension h.kind + 1) h.cells corners)) h.cells (length-rows (dimension h.kind + 1) h.cells corners),
+      eq-eqb (length (rows (cell_size h) h.cells numbers)) h.cells (length-rows (cell_size h) h.cells numbers),
     )
-    (ap (λ (points : List (List Fraction)). Ok (record { kind = h.kind; points = points; cells = rows (dimension h.kind + 1) h.cells corners })) (sym (map-rows fraction_of (dimension h.kind) h.vertices coordinates)))
+    (ap (λ (points : List (List Fraction)). Ok (mesh_of h.kind points (rows (cell_size h) h.cells numbers))) (sym (map-rows fraction_of (dimension h.kind) h.vertices coordinates)))
 
 -- ---- one line
 

@@ -1,18 +1,20 @@
 -- A text has one meaning: the mesh, or the first bad line
 use Rattle.std.proofs.Common.{◌≡◌, ℕ, ◌+◌, ◌<◌, ◌≤◌, Bool, true, false, cond, leb, eqb, List, [], ◌∷◌, ◌++◌, length, Option, Some, None, Result, Ok, Err, refl, sym, ap, subst, ◌∙◌, inl, inr, arith}
-use Rattle.std.specs.Prelude.{◌&&◌, ◌⊎◌, IfOk, IfErr}
+use Rattle.std.specs.Prelude.{◌&&◌, ◌⊎◌, IfOk, IfErr, map}
 use Rattle.std.specs.Str.Lines.{lines}
 use Rattle.std.proofs.lemmas.Bool.{leb-true, leb-false, le-leb, lt-leb, eqb-true, eq-eqb, and_parts}
-use Rattle.std.proofs.lemmas.List.{append-nil}
+use Rattle.std.proofs.lemmas.List.{append-nil, length-map}
 use Rattle.algebra.specs.Fraction.{Fraction}
 use Rattle.ratio.specs.declared.reduced.Ratio.{Ratio}
 use Rattle.mesh_in.specs.declared.header.Header.{Header}
 use Rattle.mesh_in.specs.declared.refusal.MeshKind.{MeshKind}
 use Rattle.mesh_in.specs.declared.refusal.MeshKind.TheVariants.{TooLong, Syntax, Count}
 use Rattle.mesh_in.specs.declared.refusal.MeshRefusal.{MeshRefusal}
+use Rattle.mesh_in.specs.declared.header.Version.{Version}
+use Rattle.mesh_in.specs.CellLine.{vertices_in, marker_in}
 use Rattle.mesh_in.specs.Line.{content, has_plain_bytes, words}
 use Rattle.mesh_in.specs.MeshData.{MeshData, fractions, most}
-use Rattle.mesh_in.specs.MeshText.{Said, nothing, begun, header_of, after_header, after_row, after_words, after_line, at_line, complete, reading, meaning, longest, IsOpen}
+use Rattle.mesh_in.specs.MeshText.{Said, nothing, begun, header_of, after_header, after_row, after_words, after_line, at_line, mesh_of, complete, reading, meaning, longest, IsOpen}
 use Rattle.mesh_in.specs.MeshGrammar.{word_lines, IsHeader, Opens, Says, header_for, IsMeshText, HasBadLine, LacksLines, IsRefused}
 use Rattle.mesh_in.specs.Refusal.{refusal, out_of_memory}
 use Rattle.mesh_in.specs.Reader.{Gives}
@@ -213,27 +215,37 @@ mesh_is m n e = cc
 refusal_is : (d e : MeshRefusal) → refused d ≡ Err e → d ≡ e
 refusal_is d e h = cc
 
+-- the lines are those of the mesh
+record Spells (ls : List (List ℕ)) (m : MeshData Fraction) : Type 0 where
+  version : Version
+  numbers : List (List ℕ)
+  opens : Opens ls (header_for version m) m.points numbers
+  cells_are : m.cells ≡ map (vertices_in m.kind) numbers
+  markers_are : m.markers ≡ map (marker_in m.kind) numbers
+
 of_header : (ls : List (List ℕ)) (h : Header) (points : List (List Fraction)) (cells : List (List ℕ)) (m : MeshData Fraction) (number : ℕ) (all : Bool) → (eqb (length points) h.vertices && eqb (length cells) h.cells) ≡ all
-    → cond all (given (record { kind = h.kind; points = points; cells = cells })) (Err (refusal Syntax number)) ≡ Ok m → Opens ls h points cells → Opens ls (header_for m) m.points m.cells
+    → cond all (given (mesh_of h.kind points cells)) (Err (refusal Syntax number)) ≡ Ok m → Opens ls h points cells → Spells ls m
 of_header ls h points cells m number false is_all e o = absurd cc
 of_header ls h points cells m number true is_all e o =
     let p = and_parts (eqb (length points) h.vertices) (eqb (length cells) h.cells) is_all in
-    let mesh : MeshData Fraction = record { kind = h.kind; points = points; cells = cells } in
+    let mesh : MeshData Fraction = mesh_of h.kind points cells in
     let all_points : h.vertices ≡ length points = sym (eqb-true (length points) h.vertices p.0) in
-    let all_cells : h.cells ≡ length cells = sym (eqb-true (length cells) h.cells p.1) in
-    let same : h ≡ header_for mesh = ap (λ (k : ℕ × ℕ). let r : Header = record { kind = h.kind; vertices = k.0; cells = k.1 } in r) (let q : (h.vertices, h.cells) ≡ (length points, length cells) = rw (all_points, all_cells) refl in q) in
-    subst (λ m. Opens ls (header_for m) m.points m.cells) (mesh_is mesh m e) (subst (λ h. Opens ls h points cells) same o)
+    let all_cells : h.cells ≡ length mesh.cells = sym (length-map cells (vertices_in h.kind) ∙ eqb-true (length cells) h.cells p.1) in
+    let same : h ≡ header_for h.version mesh = ap (λ (k : ℕ × ℕ). let r : Header = record { kind = h.kind; version = h.version; vertices = k.0; cells = k.1 } in r) (let q : (h.vertices, h.cells) ≡ (length points, length mesh.cells) = rw (all_points, all_cells) refl in q) in
+    subst (λ m. Spells ls m) (mesh_is mesh m e) (record { version = h.version; numbers = cells; opens = subst (λ h. Opens ls h points cells) same o; cells_are = refl; markers_are = refl })
 
-opens_from : (ls : List (List ℕ)) (t : Said) (m : MeshData Fraction) (number : ℕ) → complete number t ≡ Ok m → Says ls t → Opens ls (header_for m) m.points m.cells
+opens_from : (ls : List (List ℕ)) (t : Said) (m : MeshData Fraction) (number : ℕ) → complete number t ≡ Ok m → Says ls t → Spells ls m
 opens_from ls nothing m number e s = absurd cc
 opens_from ls (begun h points cells) m number e s = of_header ls h points cells m number (eqb (length points) h.vertices && eqb (length cells) h.cells) refl e s
 
-opens_of : (ls : List (List ℕ)) (m : MeshData Fraction) → Outcome 0 nothing ls → reading 0 nothing ls ≡ Ok m → Opens ls (header_for m) m.points m.cells
+opens_of : (ls : List (List ℕ)) (m : MeshData Fraction) → Outcome 0 nothing ls → reading 0 nothing ls ≡ Ok m → Spells ls m
 opens_of ls m (all_good t said is) e = opens_from ls t m (0 + length ls) (sym is ∙ e) (says_from ls t said)
 opens_of ls m (one_bad front bad after t kind are said is_bad is) e = let clash : refused (refusal kind (0 + length front + 1)) ≡ Ok m = sym is ∙ e in absurd cc
 
 text_from : (text : List ℕ) (m : MeshData Fraction) (short : Bool) → leb (length text) longest ≡ short → cond short (reading 0 nothing (lines text)) (Err (refusal TooLong 0)) ≡ Ok m → IsMeshText text m
-text_from text m true is_short e = record { short = leb-true (length text) longest is_short; opens = opens_of (lines text) m (outcome (lines text) 0 nothing) e }
+text_from text m true is_short e =
+    let s = opens_of (lines text) m (outcome (lines text) 0 nothing) e in
+    record { short = leb-true (length text) longest is_short; version = s.version; numbers = s.numbers; opens = s.opens; cells_are = s.cells_are; markers_are = s.markers_are }
 text_from text m false is_short e = absurd cc
 
 -- the mesh that the lines say is one to which the grammar relates the text
@@ -248,14 +260,19 @@ short_meaning text short = rw (le-leb (length text) longest short) refl
 all_lines : (ls : List (List ℕ)) (n : ℕ) (s t : Said) → said_by s ls ≡ Ok t → reading n s ls ≡ complete (n + length ls) t
 all_lines ls n s t e = ap (reading n s) (sym (append-nil ls)) ∙ reads_front ls n s t [] e ∙ last_line (n + length ls) t
 
+same_mesh : (m : MeshData Fraction) (cells : List (List ℕ)) (markers : List ℕ) → m.cells ≡ cells → m.markers ≡ markers → given (record { kind = m.kind; points = m.points; cells = cells; markers = markers }) ≡ Ok m
+same_mesh m cells markers c k = rw (sym c, sym k) refl
+
 -- and the other way round
 pub mesh_text_again : (text : List ℕ) (m : MeshData Fraction) → IsMeshText text m → meaning text ≡ Ok m
 mesh_text_again text m is =
-    short_meaning text is.short ∙ all_lines (lines text) 0 nothing (begun (header_for m) m.points m.cells) (says_again (lines text) (begun (header_for m) m.points m.cells) is.opens)
-    ∙ rw (eq-eqb (length m.points) (length m.points) refl, eq-eqb (length m.cells) (length m.cells) refl) refl
+    let h = header_for is.version m in
+    let all : length is.numbers ≡ length m.cells = sym (ap length is.cells_are ∙ length-map is.numbers (vertices_in m.kind)) in
+    short_meaning text is.short ∙ all_lines (lines text) 0 nothing (begun h m.points is.numbers) (says_again (lines text) (begun h m.points is.numbers) is.opens)
+    ∙ rw (eq-eqb (length m.points) (length m.points) refl, eq-eqb (length is.numbers) (length m.cells) all) (same_mesh m (map (vertices_in m.kind) is.numbers) (map (marker_in m.kind) is.numbers) is.cells_are is.markers_are)
 
 open_from : (h : Header) (points : List (List Fraction)) (cells : List (List ℕ)) (number : ℕ) (e : MeshRefusal) (all : Bool) → (eqb (length points) h.vertices && eqb (length cells) h.cells) ≡ all
-    → cond all (given (record { kind = h.kind; points = points; cells = cells })) (Err (refusal Syntax number)) ≡ Err e → IsOpen (begun h points cells) × (e ≡ refusal Syntax number)
+    → cond all (given (mesh_of h.kind points cells)) (Err (refusal Syntax number)) ≡ Err e → IsOpen (begun h points cells) × (e ≡ refusal Syntax number)
 open_from h points cells number e true is_all r = absurd cc
 open_from h points cells number e false is_all r = (λ k. rw is_all refl, sym (refusal_is (refusal Syntax number) e r))
 

@@ -1,3 +1,4 @@
+pub mod CellLine
 pub mod HeaderLine
 pub mod Line
 pub mod MeshData
@@ -9,3 +10,4 @@ pub mod Options
 pub mod Reader
 pub mod Refusal
 pub mod Storage
+pub mod Version

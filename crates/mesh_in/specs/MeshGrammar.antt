@@ -6,14 +6,17 @@ use Rattle.algebra.specs.Fraction.{Fraction}
 use Rattle.ratio.specs.NumberText.{Magnitude, IsNumber, number_value}
 use Rattle.spaces.specs.Cell.{dimension, cell_name}
 use Rattle.mesh_in.specs.declared.header.Header.{Header}
+use Rattle.mesh_in.specs.declared.header.Version.{Version}
 use Rattle.mesh_in.specs.declared.refusal.MeshKind.{MeshKind}
 use Rattle.mesh_in.specs.declared.refusal.MeshKind.TheVariants.{TooLong, Syntax}
 use Rattle.mesh_in.specs.declared.refusal.MeshRefusal.{MeshRefusal}
+use Rattle.mesh_in.specs.CellLine.{cell_size, vertices_in, marker_in, IsCellLine}
 use Rattle.mesh_in.specs.Line.{content, has_plain_bytes, is_some_word, words}
 use Rattle.mesh_in.specs.Number.{number_of}
-use Rattle.mesh_in.specs.MeshData.{MeshData, IsCell, most}
+use Rattle.mesh_in.specs.MeshData.{MeshData, most}
 use Rattle.mesh_in.specs.MeshText.{Said, nothing, begun, longest, after_line, IsOpen}
 use Rattle.mesh_in.specs.Refusal.{refusal}
+use Rattle.mesh_in.specs.Version.{version_name}
 
 -- the words of each line that has any
 abbrev pub word_lines : List (List ℕ) → List (List (List ℕ))
@@ -35,16 +38,16 @@ pub record IsRow {A : Type 0} (R : List ℕ → A → Type 0) (size : ℕ) (ws :
   pub all : length ws ≡ size
   pub each : AllZip R ws xs
 
--- `mesh 1 CELL VERTICES CELLS`
+-- `mesh VERSION CELL VERTICES CELLS`
 pub record IsHeader (ws : List (List ℕ)) (h : Header) : Type 0 where
   pub vertices : List ℕ
   pub cells : List ℕ
-  pub words_are : ws ≡ codes "mesh" ∷ (codes "1" ∷ (cell_name h.kind ∷ (vertices ∷ (cells ∷ []))))
+  pub words_are : ws ≡ codes "mesh" ∷ (version_name h.version ∷ (cell_name h.kind ∷ (vertices ∷ (cells ∷ []))))
   pub all_vertices : IsNatural vertices h.vertices
   pub all_cells : IsNatural cells h.cells
   pub few : (h.vertices ≤ most) × (h.cells ≤ most)
 
--- The lines are a header, then lines of these points, then lines of these cells: no more than the header says, and cells only after all points.
+-- The lines are a header, then lines of these points, then lines of cells with these numbers: no more than the header says, and cells only after all points.
 pub record Opens (ls : List (List ℕ)) (h : Header) (points : List (List Fraction)) (cells : List (List ℕ)) : Type 0 where
   pub plain : AllByRecursion (λ line. has_plain_bytes line ≡ true) ls
   pub header : List (List ℕ)
@@ -53,19 +56,23 @@ pub record Opens (ls : List (List ℕ)) (h : Header) (points : List (List Fracti
   pub lines_are : word_lines ls ≡ header ∷ (point_lines ++ cell_lines)
   pub is_header : IsHeader header h
   pub are_points : AllZip (IsRow StandsFor (dimension h.kind)) point_lines points
-  pub are_cells : AllZip (IsRow IsNatural (dimension h.kind + 1)) cell_lines cells
-  pub lawful : AllByRecursion (IsCell (dimension h.kind) h.vertices) cells
+  pub are_cells : AllZip (IsRow IsNatural (cell_size h)) cell_lines cells
+  pub lawful : AllByRecursion (IsCellLine h) cells
   pub at_most : (length points ≤ h.vertices) × (length cells ≤ h.cells)
   pub in_order : (cell_lines ≡ []) ⊎ (length points ≡ h.vertices)
 
 -- the header of a mesh
-abbrev pub header_for : MeshData Fraction → Header
-header_for m = record { kind = m.kind; vertices = length m.points; cells = length m.cells }
+abbrev pub header_for : Version → MeshData Fraction → Header
+header_for version m = record { kind = m.kind; version = version; vertices = length m.points; cells = length m.cells }
 
--- the text is that of the mesh
+-- the text is that of the mesh, in one of the versions
 pub record IsMeshText (text : List ℕ) (m : MeshData Fraction) : Type 0 where
   pub short : length text ≤ longest
-  pub opens : Opens (lines text) (header_for m) m.points m.cells
+  pub version : Version
+  pub numbers : List (List ℕ)
+  pub opens : Opens (lines text) (header_for version m) m.points numbers
+  pub cells_are : m.cells ≡ map (vertices_in m.kind) numbers
+  pub markers_are : m.markers ≡ map (marker_in m.kind) numbers
 
 -- the lines begin a mesh text, and have said so much
 abbrev pub Says : List (List ℕ) → Said → Type 0

@@ -1,5 +1,5 @@
 -- The text of a mesh: what its lines say, the first to the last, or what is wrong with the first bad one
-use Rattle.std.specs.Prelude.{◌≡◌, ℕ, zero, suc, ◌+◌, ◌==◌, ◌&&◌, nat_lt, nat_le, List, [], ◌∷◌, ◌++◌, length, Option, Some, None, Result, Ok, Err, codes, if◌then◌else◌}
+use Rattle.std.specs.Prelude.{◌≡◌, ℕ, zero, suc, ◌+◌, ◌==◌, ◌&&◌, nat_lt, nat_le, List, [], ◌∷◌, ◌++◌, length, map, Option, Some, None, Result, Ok, Err, codes, if◌then◌else◌}
 use Rattle.std.specs.Str.{bytes_eq}
 use Rattle.std.specs.Str.Lines.{lines}
 use Rattle.algebra.specs.Fraction.{Fraction}
@@ -7,15 +7,20 @@ use Rattle.spaces.specs.Cell.{dimension, cell_name}
 use Rattle.spaces.specs.declared.cell.Cell.{Cell}
 use Rattle.spaces.specs.declared.cell.Cell.TheVariants.{Interval, Triangle, Tetrahedron}
 use Rattle.mesh_in.specs.declared.header.Header.{Header}
+use Rattle.mesh_in.specs.declared.header.Version.{Version}
+use Rattle.mesh_in.specs.declared.header.Version.TheVariants.{Plain, Marked}
+use Rattle.mesh_in.specs.declared.read.TheConstants.{LIMIT}
 use Rattle.mesh_in.specs.declared.refusal.MeshKind.{MeshKind}
 use Rattle.mesh_in.specs.declared.refusal.MeshKind.TheVariants.{TooLong, Lex, Syntax, Count, VertexRange, RepeatedVertex}
 use Rattle.mesh_in.specs.declared.refusal.MeshRefusal.{MeshRefusal}
+use Rattle.mesh_in.specs.CellLine.{cell_size, vertices_in, marker_in}
 use Rattle.mesh_in.specs.Options.{◌>>=◌}
 use Rattle.mesh_in.specs.Refusal.{refusal}
 use Rattle.mesh_in.specs.Line.{content, has_plain_bytes, words}
 use Rattle.mesh_in.specs.Number.{number_of}
 use Rattle.mesh_in.specs.NumberReading.{coordinate_of}
 use Rattle.mesh_in.specs.MeshData.{MeshData, is_distinct, are_below, most}
+use Rattle.mesh_in.specs.Version.{version_name}
 
 -- ---- the words of one line
 
@@ -44,24 +49,31 @@ cell_named name =
     else if bytes_eq name (cell_name Tetrahedron) then Some Tetrahedron
     else None
 
+-- the version of a name
+abbrev pub version_named : List ℕ → Option Version
+version_named name =
+    if bytes_eq name (version_name Plain) then Some Plain
+    else if bytes_eq name (version_name Marked) then Some Marked
+    else None
+
 -- if no word is left
 abbrev pub at_end : {A : Type 0} → List (List ℕ) → A → Option A
 at_end [] x = Some x
 at_end (word ∷ more) x = None
 
--- `mesh 1 CELL VERTICES CELLS`
+-- `mesh VERSION CELL VERTICES CELLS`
 unfoldable pub header_of : List (List ℕ) → Option Header
 header_of ws = do
   ws ← keyword (codes "mesh") ws
-  ws ← keyword (codes "1") ws
-  kind ← one cell_named ws
+  version ← one version_named ws
+  kind ← one cell_named version.1
   vertices ← one number_of kind.1
   cells ← one number_of vertices.1
-  at_end cells.1 (record { kind = kind.0; vertices = vertices.0; cells = cells.0 })
+  at_end cells.1 (record { kind = kind.0; version = version.0; vertices = vertices.0; cells = cells.0 })
 
 -- ---- the lines
 
--- what the lines so far said
+-- what the lines so far said: the header, the points, and the numbers of each line of a cell
 pub data Said : Type 0 where
   nothing : Said
   begun : Header → List (List Fraction) → List (List ℕ) → Said
@@ -77,8 +89,8 @@ after_point h points cells (Some point) = Ok (begun h (points ++ point ∷ []) c
 abbrev pub after_cell : Header → List (List Fraction) → List (List ℕ) → Option (List ℕ) → Result Said MeshKind
 after_cell h points cells None = Err Syntax
 after_cell h points cells (Some cell) =
-    if are_below h.vertices cell
-    then (if is_distinct cell then Ok (begun h points (cells ++ cell ∷ [])) else Err RepeatedVertex)
+    if are_below h.vertices (vertices_in h.kind cell)
+    then (if is_distinct (vertices_in h.kind cell) then Ok (begun h points (cells ++ cell ∷ [])) else Err RepeatedVertex)
     else Err VertexRange
 
 -- the words of the next line that has any
@@ -86,7 +98,7 @@ unfoldable pub after_row : Said → List (List ℕ) → Result Said MeshKind
 after_row nothing ws = after_header (header_of ws)
 after_row (begun h points cells) ws =
     if nat_lt (length points) h.vertices then after_point h points cells (row coordinate_of (dimension h.kind) ws)
-    else if nat_lt (length cells) h.cells then after_cell h points cells (row number_of (dimension h.kind + 1) ws)
+    else if nat_lt (length cells) h.cells then after_cell h points cells (row number_of (cell_size h) ws)
     else Err Syntax
 
 abbrev pub after_words : Said → List (List ℕ) → Result Said MeshKind
@@ -99,12 +111,16 @@ after_line said line = if has_plain_bytes line then after_words said (words (con
 
 -- ---- the text
 
+-- the mesh of these points and lines of cells
+abbrev pub mesh_of : {A : Type 0} → Cell → List (List A) → List (List ℕ) → MeshData A
+mesh_of kind points cells = record { kind = kind; points = points; cells = map (vertices_in kind) cells; markers = map (marker_in kind) cells }
+
 -- the mesh at the end of the text, whose last line has this number
 abbrev pub complete : ℕ → Said → Result (MeshData Fraction) MeshRefusal
 complete number nothing = Err (refusal Syntax number)
 complete number (begun h points cells) =
     if (length points == h.vertices) && (length cells == h.cells)
-    then Ok (record { kind = h.kind; points = points; cells = cells })
+    then Ok (mesh_of h.kind points cells)
     else Err (refusal Syntax number)
 
 -- more must come
@@ -122,7 +138,7 @@ reading number said [] = complete number said
 reading number said (line ∷ more) = at_line (number + 1) (after_line said line) (λ next. reading (number + 1) next more)
 
 abbrev pub longest : ℕ
-longest = 67108864
+longest = LIMIT
 
 -- the mesh of a text, or the refusal
 unfoldable pub meaning : List ℕ → Result (MeshData Fraction) MeshRefusal

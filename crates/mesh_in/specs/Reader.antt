@@ -1,5 +1,5 @@
 -- How the code goes through a text: what is left of it says what the whole says
-use Rattle.std.specs.Prelude.{◌≡◌, ◌⊎◌, ◌++◌, ℕ, List, map, Option, Some, None, Result, Ok, Err}
+use Rattle.std.specs.Prelude.{◌≡◌, ◌⊎◌, ◌+◌, ◌++◌, ℕ, List, map, Option, Some, None, Result, Ok, Err}
 use Rattle.std.specs.Str.Lines.{lines}
 use Rattle.algebra.specs.Fraction.{Fraction}
 use Rattle.ratio.specs.declared.reduced.Ratio.{Ratio}
@@ -10,6 +10,7 @@ use Rattle.mesh_in.specs.declared.lines.Line.{Line}
 use Rattle.mesh_in.specs.declared.lines.Lines.{Lines}
 use Rattle.mesh_in.specs.declared.refusal.MeshKind.{MeshKind}
 use Rattle.mesh_in.specs.declared.refusal.MeshRefusal.{MeshRefusal}
+use Rattle.mesh_in.specs.HeaderLine.{header_line}
 use Rattle.mesh_in.specs.Line.{words}
 use Rattle.mesh_in.specs.MeshData.{MeshData, fractions, rows}
 use Rattle.mesh_in.specs.MeshText.{Said, complete, after_row, at_line, reading}
@@ -18,6 +19,10 @@ use Rattle.mesh_in.specs.Refusal.{refusal, out_of_memory}
 -- what the lines that are left say after those before
 abbrev pub remaining : Lines → Said → Result (MeshData Fraction) MeshRefusal
 remaining left said = reading left.number said (lines left.rest.now)
+
+-- the number of the next line that has words
+abbrev pub row_number : Lines → ℕ
+row_number left = left.number + header_line left.rest.now
 
 -- a line that has words, or none, and then what is left
 abbrev pub goes_on : Option Line → Lines → Said → Result (MeshData Fraction) MeshRefusal

@@ -1,7 +1,7 @@
 //! Meshes: points with exact coordinates, and cells of one kind on them, read from their text.
 //!
 //! `read_mesh` takes exactly the texts of the mesh format (docs/FORMATS.md), and names the first bad line of every other text.
-//! `header_line` finds the line that a refusal of a whole mesh names.
+//! `read_mesh_of` wants a mesh of one kind of cells, and names the header of any other.
 #![tactic(auto)]
 
 mod header;
@@ -12,9 +12,8 @@ mod refusal;
 mod rows;
 mod words;
 
-pub use lines::header_line;
 pub use mesh::{CellView, Mesh};
-pub use read::read_mesh;
+pub use read::{LIMIT, read_mesh, read_mesh_of};
 pub use refusal::{MeshKind, MeshRefusal};
 
 #[cfg(test)]

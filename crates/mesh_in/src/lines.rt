@@ -1,9 +1,8 @@
 //! The lines of a text that have words.
 
-ghost use Rattle.std.specs.Prelude.{◌≡◌, ◌==◌, ◌∷◌, ◌+◌, ◌<◌, ◌≤◌, ◌^◌, ℕ, List, length, IfOk, IfErr, OnOk, IsTrue, Err};
+ghost use Rattle.std.specs.Prelude.{◌≡◌, ◌==◌, ◌∷◌, ◌+◌, ◌<◌, ◌≤◌, ℕ, List, length, IfOk, IfErr, IfSome, OnOk, Err};
 ghost use Rattle.std.specs.List.{position_or_len, list_all};
 ghost use Rattle.std.specs.Str.Lines.{lines, strip_carriage_return};
-ghost use Rattle.mesh_in.specs.HeaderLine.{header_line};
 ghost use Rattle.mesh_in.specs.Line.{is_plain, content};
 ghost use Rattle.mesh_in.specs.Refusal.{refusal};
 ghost use Rattle.mesh_in.specs.MeshText.{longest};
@@ -74,24 +73,6 @@ fn without_comment(line: &[u8]) -> &[u8]
     text
 }
 
-/// The number, from 1, of the first line that has words: in the text of a mesh that is its header. No line behind it is read.
-pub fn header_line(text: &[u8]) -> u32
-    requires { length text.now + 1 < 2 ^ 32 }
-    ensures { result ≡ header_line text.now }
-{
-    let mut rest = text;
-    let mut number = 1;
-    'lines: while !rest.is_empty() {
-        let (line, after) = split_line(rest);
-        if has_words(without_comment(line)) {
-            return number;
-        }
-        number += 1;
-        rest = after;
-    }
-    number
-}
-
 fn is_plain(byte: u8) -> bool
     ensures { result ≡ is_plain byte }
 {
@@ -115,11 +96,13 @@ pub struct Lines<'a> {
 
 impl<'a> Lines<'a> {
     ghost use Rattle.mesh_in.specs.MeshText.{Said, IsOpen, after_row, reading};
-    ghost use Rattle.mesh_in.specs.Reader.{remaining, goes_on};
+    ghost use Rattle.mesh_in.specs.HeaderLine.{header_line};
+    ghost use Rattle.mesh_in.specs.Reader.{remaining, goes_on, row_number};
 
     pub fn new(text: &'a [u8]) -> Lines<'a>
         requires { length text.now ≤ longest }
-        ensures { (said : Said) → remaining result said ≡ reading 0 said (lines text.now) }
+        ensures says { (said : Said) → remaining result said ≡ reading 0 said (lines text.now) }
+        ensures row { row_number result ≡ header_line text.now }
     {
         Lines {
             rest: text,
@@ -141,6 +124,7 @@ impl<'a> Lines<'a> {
     /// The next line that has words, if there is one. A line with a byte that may not stand there is refused.
     fn next(&mut self) -> Result<Option<Line<'a>>, MeshRefusal>
         ensures found { IfOk result (λ line. (said : Said) → remaining self.old said ≡ goes_on line self.new said) }
+        ensures number { IfOk result (λ line. IfSome line (λ line. line.number ≡ row_number self.old)) }
         ensures refused { IfErr result (λ e. (said : Said) → remaining self.old said ≡ Err e) }
     {
         'lines: while !self.rest.is_empty() {
@@ -164,6 +148,7 @@ impl<'a> Lines<'a> {
     /// The next line that has words, where one must come.
     pub fn row(&mut self) -> Result<Line<'a>, MeshRefusal>
         ensures found { IfOk result (λ line. (said : Said) → remaining self.old said ≡ goes_on (Some line) self.new said) }
+        ensures number { IfOk result (λ line. line.number ≡ row_number self.old) }
         ensures refused { IfErr result (λ e. (said : Said) → IsOpen said → remaining self.old said ≡ Err e) }
     {
         match self.next()? {

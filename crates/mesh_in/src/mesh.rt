@@ -23,41 +23,40 @@ fn part<T>(items: &[T], start: usize, size: usize) -> &[T]
 /// Points, and cells of one kind on them. A vertex is the number of its point, counted from 0.
 #[derive(Drop)]
 pub struct Mesh {
-    kind: Cell,
-    vertices: u32,
-    cells: u32,
+    header: Header,
     // Point after point.
     coordinates: Vec<Ratio>,
-    // Cell after cell.
-    corners: Vec<u32>,
+    // Cell after cell: the numbers of its line.
+    numbers: Vec<u32>,
 }
 
 impl Model for Mesh {
     ghost Value = { MeshData Ratio };
 
-    ghost view = { λ m. stored m.kind m.vertices m.cells m.coordinates.items m.corners.items };
+    ghost view = { λ m. stored m.header m.coordinates.items m.numbers.items };
 
-    ghost invariant = { λ m. IsStored m.kind m.vertices m.cells m.coordinates.items m.corners.items };
+    ghost invariant = { λ m. IsStored m.header m.coordinates.items m.numbers.items };
 }
 
-/// A cell of a mesh: the numbers of its vertices, one more than the dimension, each another.
+/// A cell of a mesh.
 #[derive(Clone, Copy, Debug)]
 pub struct CellView<'a> {
+    /// The numbers of its vertices, one more than the dimension, each another.
     pub vertices: &'a [u32],
+    /// What its line says behind them, and 0 in a mesh of version 1.
+    pub marker: u32,
 }
 
 impl Mesh {
     /// Of what a text said.
-    pub(crate) fn new(header: Header, coordinates: Vec<Ratio>, corners: Vec<u32>) -> Mesh
-        requires { IsStored header.kind header.vertices header.cells coordinates.items corners.items }
-        ensures { result ≡ stored header.kind header.vertices header.cells coordinates.items corners.items }
+    pub(crate) fn new(header: Header, coordinates: Vec<Ratio>, numbers: Vec<u32>) -> Mesh
+        requires { IsStored header coordinates.items numbers.items }
+        ensures { result ≡ stored header coordinates.items numbers.items }
     {
         Mesh {
-            kind: header.kind,
-            vertices: header.vertices,
-            cells: header.cells,
+            header,
             coordinates,
-            corners,
+            numbers,
         }
     }
 
@@ -66,33 +65,36 @@ impl Mesh {
         ensures kind { result ≡ self.now.kind }
         ensures mesh { IsMesh self.now }
     {
-        self.kind
+        self.header.kind
     }
 
     /// How many cells there are.
     pub fn cells(&self) -> u32
         ensures { result ≡ length self.now.cells }
     {
-        self.cells
+        self.header.cells
     }
 
     /// How many points there are.
     pub fn vertices(&self) -> u32
         ensures { result ≡ length self.now.points }
     {
-        self.vertices
+        self.header.vertices
     }
 
     /// The cell of this number, counted from 0.
     pub fn cell(&self, k: u32) -> CellView<'_>
         requires { k < length self.now.cells }
         ensures vertices { slice_get self.now.cells k ≡ Some result.vertices.now }
+        ensures marker { slice_get self.now.markers k ≡ Some result.marker }
         ensures cell { IsCell (dimension self.now.kind) (length self.now.points) result.vertices.now }
     {
-        let size = self.kind.dim() as usize + 1;
-        let start = k as usize * size;
+        let size = self.header.cell_size() as usize;
+        let numbers = part(&self.numbers, k as usize * size, size);
+        let (vertices, markers) = numbers.split_at(self.header.kind.dim() as usize + 1);
         CellView {
-            vertices: part(&self.corners, start, size),
+            vertices,
+            marker: markers.first().copied().unwrap_or(0),
         }
     }
 
@@ -102,7 +104,7 @@ impl Mesh {
         ensures coordinates { slice_get self.now.points v ≡ Some result.now }
         ensures dimension { length result.now ≡ dimension self.now.kind }
     {
-        let size = self.kind.dim() as usize;
+        let size = self.header.kind.dim() as usize;
         let start = v as usize * size;
         part(&self.coordinates, start, size)
     }

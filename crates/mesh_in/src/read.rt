@@ -5,8 +5,10 @@ ghost use Rattle.std.specs.List.{AllByRecursion};
 ghost use Rattle.std.specs.Str.Lines.{lines};
 ghost use Rattle.algebra.specs.Fraction.{Fraction};
 ghost use Rattle.spaces.specs.Cell.{dimension};
+ghost use Rattle.mesh_in.specs.CellLine.{cell_size, IsCellLine};
+ghost use Rattle.mesh_in.specs.HeaderLine.{header_line, IsWrongCell};
 ghost use Rattle.mesh_in.specs.Line.{words};
-ghost use Rattle.mesh_in.specs.MeshData.{MeshData, IsCell, fractions, rows, most};
+ghost use Rattle.mesh_in.specs.MeshData.{MeshData, IsMesh, fractions, rows, most};
 ghost use Rattle.mesh_in.specs.MeshGrammar.{IsMeshText, IsRefused};
 ghost use Rattle.mesh_in.specs.MeshText.{longest, nothing, begun, header_of, after_header, reading, meaning};
 ghost use Rattle.mesh_in.specs.Refusal.{out_of_memory};
@@ -18,10 +20,11 @@ use crate::mesh::Mesh;
 use crate::refusal::{MeshKind, MeshRefusal};
 use crate::rows::{push_cell, push_coordinates};
 use ratio::Ratio;
+use spaces::Cell;
 use std::alloc::Global;
 
-/// The most bytes of a text.
-const LONGEST: usize = 67_108_864;
+/// How many bytes the text of a mesh may have.
+pub const LIMIT: u32 = 67_108_864;
 
 /// The most vertices, and the most cells.
 const MOST: u32 = 1_000_000;
@@ -58,39 +61,44 @@ fn read_points(
     Ok(coordinates)
 }
 
-// The vertices of all cells.
+// The numbers of all cells: their vertices and markers.
 fn read_cells(alloc: Global, lines: &mut Lines<'_>, header: Header) -> Result<Vec<u32>, MeshRefusal>
-    ensures fit { IfOk result (λ v. length v.items ≡ header.cells * (dimension header.kind + 1)) }
-    ensures cells { IfOk result (λ v. AllByRecursion (IsCell (dimension header.kind) header.vertices) (rows (dimension header.kind + 1) header.cells v.items)) }
+    ensures fit { IfOk result (λ v. length v.items ≡ header.cells * cell_size header) }
+    ensures cells { IfOk result (λ v. AllByRecursion (IsCellLine header) (rows (cell_size header) header.cells v.items)) }
     ensures ok { IfOk result (λ v. (points : List (List Fraction)) → length points ≡ header.vertices →
-        remaining lines.old (begun header points []) ≡ remaining lines.new (begun header points (rows (dimension header.kind + 1) header.cells v.items))) }
+        remaining lines.old (begun header points []) ≡ remaining lines.new (begun header points (rows (cell_size header) header.cells v.items))) }
     ensures err { IfErr result (λ e. (points : List (List Fraction)) → length points ≡ header.vertices → Fails e (remaining lines.old (begun header points []))) }
 {
-    let mut corners = Vec::new(alloc);
+    let mut numbers = Vec::new(alloc);
     'cells: for _ in 0..header.cells {
         let line = lines.row()?;
-        push_cell(&mut corners, line, header)?;
+        push_cell(&mut numbers, line, header)?;
     }
-    Ok(corners)
+    Ok(numbers)
 }
 
-fn read_lines(alloc: Global, text: &[u8]) -> Result<Mesh, MeshRefusal>
+// The mesh, and the line of its header.
+fn read_lines(alloc: Global, text: &[u8]) -> Result<(Mesh, u32), MeshRefusal>
     requires { length text.now ≤ longest }
-    ensures { Gives result (reading 0 nothing (lines text.now)) }
+    ensures ok { IfOk result (λ r. reading 0 nothing (lines text.now) ≡ Ok (fractions r.0)) }
+    ensures line { IfOk result (λ r. r.1 ≡ header_line text.now) }
+    ensures err { IfErr result (λ e. Fails e (reading 0 nothing (lines text.now))) }
 {
     let mut lines = Lines::new(text);
     let line = lines.row()?;
     let header = first_row(line)?;
     let coordinates = read_points(alloc, &mut lines, header)?;
-    let corners = read_cells(alloc, &mut lines, header)?;
+    let numbers = read_cells(alloc, &mut lines, header)?;
     lines.end()?;
-    Ok(Mesh::new(header, coordinates, corners))
+    Ok((Mesh::new(header, coordinates, numbers), line.number))
 }
 
-fn read(alloc: Global, text: &[u8]) -> Result<Mesh, MeshRefusal>
-    ensures { Gives result (meaning text.now) }
+fn read(alloc: Global, text: &[u8]) -> Result<(Mesh, u32), MeshRefusal>
+    ensures ok { IfOk result (λ r. meaning text.now ≡ Ok (fractions r.0)) }
+    ensures line { IfOk result (λ r. r.1 ≡ header_line text.now) }
+    ensures err { IfErr result (λ e. Fails e (meaning text.now)) }
 {
-    if text.len() > LONGEST {
+    if text.len() > LIMIT as usize {
         return Err(MeshRefusal {
             kind: MeshKind::TooLong,
             line: 0,
@@ -98,6 +106,13 @@ fn read(alloc: Global, text: &[u8]) -> Result<Mesh, MeshRefusal>
         });
     }
     read_lines(alloc, text)
+}
+
+fn read_any(alloc: Global, text: &[u8]) -> Result<Mesh, MeshRefusal>
+    ensures { Gives result (meaning text.now) }
+{
+    let (mesh, _) = read(alloc, text)?;
+    Ok(mesh)
 }
 
 /// The mesh of a text, or what is wrong with its first bad line.
@@ -115,5 +130,25 @@ pub fn read_mesh(alloc: Global, text: &[u8]) -> Result<Mesh, MeshRefusal>
     // Each text has one meaning.
     ensures meaning { Gives result (meaning text.now) }
 {
-    read(alloc, text)
+    read_any(alloc, text)
+}
+
+/// The mesh of a text, if its cells are of this kind. A mesh of other cells is refused as `WrongCell`, with the line of its
+/// header; every other text as by `read_mesh`.
+pub fn read_mesh_of(alloc: Global, kind: Cell, text: &[u8]) -> Result<Mesh, MeshRefusal>
+    ensures mesh { IfOk result (λ m. meaning text.now ≡ Ok (fractions m)) }
+    ensures kind { IfOk result (λ m. m.kind ≡ kind) }
+    ensures lawful { IfOk result IsMesh }
+    ensures refusal { IfErr result (λ e. Fails e (meaning text.now) ⊎ IsWrongCell kind text.now e) }
+{
+    let (mesh, line) = read(alloc, text)?;
+    if mesh.kind() == kind {
+        Ok(mesh)
+    } else {
+        Err(MeshRefusal {
+            kind: MeshKind::WrongCell,
+            line,
+            cell: 0,
+        })
+    }
 }

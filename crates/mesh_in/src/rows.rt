@@ -3,11 +3,11 @@
 ghost use Rattle.std.specs.Prelude.{◌≡◌, ◌⊎◌, ◌+◌, ◌++◌, ℕ, List, Some, None, map, OnOk, IfErr};
 ghost use Rattle.algebra.specs.Fraction.{Fraction};
 ghost use Rattle.ratio.specs.Value.{fraction_of, valued};
-ghost use Rattle.spaces.specs.Cell.{dimension};
+ghost use Rattle.mesh_in.specs.CellLine.{cell_size, IsCellLine};
 ghost use Rattle.mesh_in.specs.Line.{words};
 ghost use Rattle.mesh_in.specs.Number.{number_of};
 ghost use Rattle.mesh_in.specs.NumberReading.{coordinate_of};
-ghost use Rattle.mesh_in.specs.MeshData.{IsCell, are_below, is_distinct};
+ghost use Rattle.mesh_in.specs.MeshData.{are_below, is_distinct};
 ghost use Rattle.mesh_in.specs.MeshText.{row, after_cell};
 ghost use Rattle.mesh_in.specs.Refusal.{refusal, out_of_memory};
 ghost use Rattle.mesh_in.specs.Reader.{appended, IsRefusedBy};
@@ -50,9 +50,9 @@ pub fn push_coordinates(
     Ok(())
 }
 
-// Appends just so many vertex numbers.
-fn push_numbers(corners: &mut Vec<u32>, line: Line<'_>, count: u8) -> Result<(), MeshRefusal>
-    ensures ok { OnOk result (appended corners.old.items (row number_of count (words line.entry.text.now)) ≡ Some corners.new.items) }
+// Appends just so many numbers.
+fn push_numbers(numbers: &mut Vec<u32>, line: Line<'_>, count: u8) -> Result<(), MeshRefusal>
+    ensures ok { OnOk result (appended numbers.old.items (row number_of count (words line.entry.text.now)) ≡ Some numbers.new.items) }
     ensures err { IfErr result (λ e. (e ≡ out_of_memory) ⊎ ((row number_of count (words line.entry.text.now) ≡ None) × (e ≡ refusal MeshKind.Syntax line.entry.number))) }
 {
     let mut rest = line.text;
@@ -60,10 +60,10 @@ fn push_numbers(corners: &mut Vec<u32>, line: Line<'_>, count: u8) -> Result<(),
         let Some((word, after)) = first_word(rest) else {
             return Err(line.refused(MeshKind::Syntax));
         };
-        let Some(vertex) = read_number(word) else {
+        let Some(number) = read_number(word) else {
             return Err(line.refused(MeshKind::Syntax));
         };
-        corners.push(vertex)?;
+        numbers.push(number)?;
         rest = after;
     }
     if has_words(rest) {
@@ -87,20 +87,21 @@ fn is_distinct(vertices: &[u32]) -> bool
     }
 }
 
-/// Appends the vertices of a cell.
-pub fn push_cell(corners: &mut Vec<u32>, line: Line<'_>, header: Header) -> Result<(), MeshRefusal>
-    ensures ok { OnOk result ((cell : List ℕ) × (corners.new.items ≡ corners.old.items ++ cell) × IsCell (dimension header.kind) header.vertices cell
-        × (row number_of (dimension header.kind + 1) (words line.entry.text.now) ≡ Some cell)) }
+/// Appends the numbers of a cell's line.
+pub fn push_cell(numbers: &mut Vec<u32>, line: Line<'_>, header: Header) -> Result<(), MeshRefusal>
+    ensures ok { OnOk result ((cell : List ℕ) × (numbers.new.items ≡ numbers.old.items ++ cell) × IsCellLine header cell
+        × (row number_of (cell_size header) (words line.entry.text.now) ≡ Some cell)) }
     ensures err { IfErr result (λ e. (e ≡ out_of_memory) ⊎ ((points : List (List Fraction)) (cells : List (List ℕ)) →
-        IsRefusedBy e line.entry.number (after_cell header points cells (row number_of (dimension header.kind + 1) (words line.entry.text.now))))) }
+        IsRefusedBy e line.entry.number (after_cell header points cells (row number_of (cell_size header) (words line.entry.text.now))))) }
 {
-    let before = corners.len();
-    push_numbers(corners, line, header.kind.dim() + 1)?;
-    let (_, cell) = corners.split_at(before);
-    if !are_below(header.vertices, cell) {
+    let before = numbers.len();
+    push_numbers(numbers, line, header.cell_size())?;
+    let (_, cell) = numbers.split_at(before);
+    let (vertices, _) = cell.split_at(header.kind.dim() as usize + 1);
+    if !are_below(header.vertices, vertices) {
         return Err(line.refused(MeshKind::VertexRange));
     }
-    if !is_distinct(cell) {
+    if !is_distinct(vertices) {
         return Err(line.refused(MeshKind::RepeatedVertex));
     }
     Ok(())

@@ -14,6 +14,7 @@ fn reads_a_triangle(rt: HostRuntime) -> Result<(), Fail> {
     assert_eq!(rt; mesh.vertices(), 3);
     assert_eq!(rt; mesh.cells(), 1);
     assert_eq!(rt; mesh.cell(0).vertices, [0, 1, 2].as_slice());
+    assert_eq!(rt; mesh.cell(0).marker, 0);
     assert_eq!(rt;
         mesh.point(1),
         [Ratio::new(-5, 1).ok_or("fits")?, Ratio::zero()].as_slice()
@@ -26,8 +27,22 @@ fn reads_a_triangle(rt: HostRuntime) -> Result<(), Fail> {
 }
 
 #[test]
+fn reads_markers(rt: HostRuntime) -> Result<(), Fail> {
+    let mesh = read_mesh(
+        rt.alloc(),
+        b"mesh 2 interval 3 3\n0\n1\n2\n0 1 0\n1 2 007\n2 0 4294967295",
+    )?;
+    assert_eq!(rt; mesh.cell(0).marker, 0);
+    assert_eq!(rt; mesh.cell(1).vertices, [1, 2].as_slice());
+    assert_eq!(rt; mesh.cell(1).marker, 7);
+    assert_eq!(rt; mesh.cell(2).vertices, [2, 0].as_slice());
+    assert_eq!(rt; mesh.cell(2).marker, u32::MAX);
+    Ok(())
+}
+
+#[test]
 fn takes_these_texts(rt: HostRuntime) {
-    let texts: [&[u8]; 8] = [
+    let texts: [&[u8]; 10] = [
         b"mesh 1 interval 0 0",
         b"mesh 1 tetrahedron 0 0\n",
         b"mesh 1 interval 2 1\r\n0\r\n2\r\n0 1\r\n",
@@ -36,6 +51,8 @@ fn takes_these_texts(rt: HostRuntime) {
         b"mesh 1 tetrahedron 4 1\n0 0 0\n1 0 0\n0 1 0\n0 0 1\n3 2 1 0\n",
         b"mesh 1 interval 1 0\n5\n\n\n",
         b"mesh 1 interval 3 2\n0\n1\n4\n0 1\n1 2",
+        b"mesh 2 interval 0 0",
+        b"mesh 2 triangle 3 1\n0 0\n1 0\n0 1\n0 1 2 2 # its marker",
     ];
     for text in &texts {
         assert!(rt; read_mesh(rt.alloc(), text).is_ok(), "{text:?}");
@@ -44,12 +61,14 @@ fn takes_these_texts(rt: HostRuntime) {
 
 #[test]
 fn names_the_first_bad_line(rt: HostRuntime) {
-    let texts: [(&[u8], MeshKind, u32); 36] = [
+    let texts: [(&[u8], MeshKind, u32); 46] = [
         (b"", MeshKind::Syntax, 0),
         (b"\n", MeshKind::Syntax, 1),
         (b"\n# nothing\n", MeshKind::Syntax, 2),
         (b"mesh 01 interval 0 0\n", MeshKind::Syntax, 1),
-        (b"mesh 2 interval 0 0\n", MeshKind::Syntax, 1),
+        (b"mesh 3 interval 0 0\n", MeshKind::Syntax, 1),
+        (b"mesh 02 interval 0 0\n", MeshKind::Syntax, 1),
+        (b"mesh 12 interval 0 0\n", MeshKind::Syntax, 1),
         (b"Mesh 1 interval 0 0\n", MeshKind::Syntax, 1),
         (b"mesh 1 quadrilateral 0 0\n", MeshKind::Syntax, 1),
         (b"mesh 1 interval 0\n", MeshKind::Syntax, 1),
@@ -102,6 +121,26 @@ fn names_the_first_bad_line(rt: HostRuntime) {
             MeshKind::Syntax,
             5,
         ),
+        (b"mesh 1 interval 2 1\n0\n1\n0 1 7\n", MeshKind::Syntax, 4),
+        (b"mesh 2 interval 2 1\n0\n1\n0 1\n", MeshKind::Syntax, 4),
+        (b"mesh 2 interval 2 1\n0\n1\n0 1 7 7\n", MeshKind::Syntax, 4),
+        (b"mesh 2 interval 2 1\n0\n1\n0 1 -7\n", MeshKind::Syntax, 4),
+        (
+            b"mesh 2 interval 2 1\n0\n1\n2 2 4294967296\n",
+            MeshKind::Syntax,
+            4,
+        ),
+        (
+            b"mesh 2 interval 2 1\n0\n1\n0 2 0\n",
+            MeshKind::VertexRange,
+            4,
+        ),
+        (
+            b"mesh 2 interval 2 1\n0\n1\n1 1 0\n",
+            MeshKind::RepeatedVertex,
+            4,
+        ),
+        (b"mesh 2 interval 1 0\n0 0\n", MeshKind::Syntax, 2),
         (b"mesh 1 interval 0 0\r", MeshKind::Lex, 1),
         (b"mesh 1 interval 0 0\r\r\n", MeshKind::Lex, 1),
         (b"mesh 1\rinterval 0 0\n", MeshKind::Lex, 1),

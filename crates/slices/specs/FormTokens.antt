@@ -1,5 +1,5 @@
 -- The tokens of a form file
-use Rattle.std.specs.Prelude.{◌≡◌, ◌≤◌, ℕ, zero, suc, ◌+◌, ◌*◌, ◌-◌, Bool, true, false, not, length, ◌||◌, ◌==◌, nat_lt, if◌then◌else◌, List, [], ◌∷◌, take, drop, Option, Some, None, Result, Ok, Err}
+use Rattle.std.specs.Prelude.{◌≡◌, ◌≤◌, ℕ, ◌+◌, ◌*◌, ◌-◌, Bool, true, false, not, length, ◌||◌, ◌==◌, nat_lt, if◌then◌else◌, List, [], ◌∷◌, take, drop, Option, Some, None, Result, Ok, Err}
 use Rattle.slices.specs.FormGap.{Spot, spot, blanks, after_gap}
 use Rattle.slices.specs.FormTable.{form_token}
 use Rattle.slices.specs.Tokens.{Token, token_of}
@@ -8,7 +8,8 @@ use Rattle.slices.specs.declared.toks.TokKind.TheVariants.{End}
 use Rattle.slices.specs.declared.toks.Tok.{Tok}
 use Rattle.slices.specs.declared.toks.LexAt.{LexAt}
 
--- a form file, and how far it is read: the place and the line of the next byte, how many brackets are open, and whether the statement has a token
+-- a form file, and how far it is read: the place and the line of the next byte, how many brackets are open, and
+-- whether the statement has a token
 pub record FormReader : Type 0 where
   pub source : List ℕ
   pub at : ℕ
@@ -43,11 +44,14 @@ line_end r p n bytes q = token (token_at bytes p n End) (record r { at = q.at; l
 
 abbrev pub next_by : FormReader → Spot → ℕ → List ℕ → Option (ℕ × TokKind) → FormNext
 next_by r p b bytes None = no_token p.at p.line
-next_by r p b bytes (Some t) = token (token_at bytes p t.0 t.1) (record r { at = p.at + t.0; line = p.line; depth = depth_after b r.depth; begun = true })
+next_by r p b bytes (Some t) =
+    token (token_at bytes p t.0 t.1) (record r { at = p.at + t.0; line = p.line; depth = depth_after b r.depth; begun = true })
 
 abbrev pub next_at : FormReader → Spot → List ℕ → FormNext
 next_at r p [] = if r.begun then line_end r p 0 [] p else finished
-next_at r p (b ∷ bs) = if b == 10 then line_end r p 1 (b ∷ bs) (spot (p.at + 1) (p.line + 1)) else next_by r p b (b ∷ bs) (form_token (b ∷ bs))
+next_at r p (b ∷ bs) =
+    if b == 10 then line_end r p 1 (b ∷ bs) (spot (p.at + 1) (p.line + 1)) else
+    next_by r p b (b ∷ bs) (form_token (b ∷ bs))
 
 unfoldable pub gap_end : FormReader → Spot
 gap_end r = after_gap blanks (quiet_at r.begun r.depth) (drop r.at r.source) r.at r.line
@@ -69,7 +73,8 @@ unread r = 2 * (length r.source - r.at) + (if r.begun then 1 else 0)
 pub data Scan : FormReader → List Tok → Option LexAt → Type 0 where
   no_more : {r : FormReader} → form_next r ≡ finished → Scan r [] None
   lost : {r : FormReader} {e : LexAt} → form_next r ≡ no_token e.from e.line → Scan r [] (Some e)
-  one_more : {r : FormReader} {t : Tok} {q : FormReader} {ts : List Tok} {e : Option LexAt} → form_next r ≡ token (token_of t) q → Scan q ts e → Scan r (t ∷ ts) e
+  one_more : {r : FormReader} {t : Tok} {q : FormReader} {ts : List Tok} {e : Option LexAt}
+      → form_next r ≡ token (token_of t) q → Scan q ts e → Scan r (t ∷ ts) e
 
 -- so many bytes are what stands at a place of a text
 abbrev pub IsCutAt : List ℕ → ℕ → List ℕ → Type 0

@@ -6,4 +6,4 @@ use Rattle.mesh_in.specs.Reader.{appended}
 use Rattle.mesh_in.proofs.rows.push_numbers.Given as goal
 
 abbrev pub invariant-words : goal.invariant-words
-invariant-words l = appended l.corners.items (row number_of (l.count - l.counter) (words l.rest)) ≡ appended l.fn.corners.items (row number_of l.count (words l.line.text.now))
+invariant-words l = appended l.numbers.items (row number_of (l.count - l.counter) (words l.rest)) ≡ appended l.fn.numbers.items (row number_of l.count (words l.line.text.now))

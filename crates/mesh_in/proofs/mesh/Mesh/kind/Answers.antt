@@ -5,4 +5,4 @@ use Rattle.mesh_in.proofs.mesh.Mesh.kind.Goals as goal
 
 pub returns-clause-mesh : goal.returns-clause-mesh
 returns-clause-mesh c =
-    subst (λ m. IsMesh m) c.self.view_is (is_mesh c.self.inside.kind c.self.inside.vertices c.self.inside.cells c.self.inside.coordinates.items c.self.inside.corners.items c.self.invariant)
+    subst (λ m. IsMesh m) c.self.view_is (is_mesh c.self.inside.header c.self.inside.coordinates.items c.self.inside.numbers.items c.self.invariant)

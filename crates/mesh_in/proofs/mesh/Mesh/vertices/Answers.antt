@@ -1,7 +1,5 @@
-use Rattle.std.proofs.Common.{ap, length, sym, ◌∙◌}
-use Rattle.spaces.specs.Cell.{dimension}
-use Rattle.mesh_in.proofs.RowLemmas.{length-rows}
+use Rattle.mesh_in.proofs.StoredLemmas.{point_count}
 use Rattle.mesh_in.proofs.mesh.Mesh.vertices.Goals as goal
 
 pub returns : goal.returns
-returns c = sym (length-rows (dimension c.self.inside.kind) c.self.inside.vertices c.self.inside.coordinates.items) ∙ ap (λ m. length m.points) c.self.view_is
+returns c = point_count c.self.inside.header c.self.inside.coordinates.items c.self.inside.numbers.items c.args.self.now (record { fits = c.self.invariant; is = c.self.view_is })

@@ -1,0 +1,2 @@
+mod SinkLaws
+mod TextLaws

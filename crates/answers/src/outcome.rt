@@ -1,0 +1,109 @@
+//! How a run of the program ends.
+ghost use Rattle.std.specs.Prelude.{◌≡◌};
+ghost use Rattle.answers.specs.Outcome.{status_of};
+ghost use Rattle.answers.specs.declared.outcome.Outcome.TheVariants.{Memory, Mesh};
+
+use assembly::RunRefusal;
+use mesh_in::{MeshKind, MeshRefusal};
+use std::alloc::AllocError;
+
+/// Why a form file is refused, by the numbers of its refusals.
+#[derive(Clone, Copy, Debug, PartialEq, Eq)]
+pub enum FormKind {
+    /// 1: the file has more than 262,144 bytes.
+    TooLong,
+    /// 16: the form is none that the program can compile yet.
+    NotYet,
+}
+
+/// A refusal of a form file.
+#[derive(Clone, Copy, Debug, PartialEq, Eq)]
+pub struct FormRefusal {
+    pub kind: FormKind,
+    /// Counted from 1; 0 where no line is to blame.
+    pub line: u32,
+}
+
+/// Where the numbers of a run passed 127 bits.
+#[derive(Clone, Copy, Debug, PartialEq, Eq)]
+pub enum Spot {
+    /// In the values of a cell.
+    Cell { cell: u32 },
+    /// In the sum of an entry.
+    Sum { row: u32, col: u32 },
+}
+
+/// How a run ends.
+#[derive(Clone, Copy, Debug, PartialEq, Eq)]
+pub enum Outcome {
+    /// The whole answer was written.
+    Done,
+    /// The words have none of the shapes.
+    Usage,
+    Form(FormRefusal),
+    Mesh(MeshRefusal),
+    Passed(Spot),
+    /// A file could not be read: 1 is that of the form, 2 that of the mesh.
+    ReadFault(u8),
+    /// The answer could not be written whole.
+    WriteFault,
+    Memory,
+}
+
+impl Outcome {
+    /// The status that the process ends with.
+    pub fn status(&self) -> u8
+        ensures { result ≡ status_of self.now }
+    {
+        match self {
+            Outcome::Done => 0,
+            Outcome::Usage => 2,
+            Outcome::Form(_) => 3,
+            Outcome::Mesh(_) => 4,
+            Outcome::Passed(_) => 7,
+            Outcome::ReadFault(_) => 8,
+            Outcome::WriteFault => 9,
+            Outcome::Memory => 10,
+        }
+    }
+}
+
+impl From<AllocError> for Outcome {
+    ghost from_gives = { λ _ o. o ≡ Memory };
+
+    fn from(_error: AllocError) -> Outcome {
+        Outcome::Memory
+    }
+}
+
+impl From<MeshRefusal> for Outcome {
+    ghost use Rattle.answers.specs.Outcome.{mesh_outcome};
+
+    ghost from_gives = { λ r o. o ≡ mesh_outcome r };
+
+    fn from(refusal: MeshRefusal) -> Outcome {
+        match refusal.kind {
+            MeshKind::Memory => Outcome::Memory,
+            _ => Outcome::Mesh(refusal),
+        }
+    }
+}
+
+impl From<RunRefusal> for Outcome {
+    ghost use Rattle.answers.specs.Outcome.{run_outcome};
+
+    ghost from_gives = { λ r o. o ≡ run_outcome r };
+
+    fn from(refusal: RunRefusal) -> Outcome {
+        match refusal {
+            RunRefusal::Zero { cell, .. } => Outcome::Mesh(MeshRefusal {
+                kind: MeshKind::Degenerate,
+                line: 0,
+                cell,
+            }),
+            RunRefusal::CellPassed { cell, .. } => Outcome::Passed(Spot::Cell { cell }),
+            RunRefusal::SumPassed { row, col } => Outcome::Passed(Spot::Sum { row, col }),
+            RunRefusal::Memory => Outcome::Memory,
+        }
+    }
+}
