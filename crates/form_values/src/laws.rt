@@ -1,9 +1,11 @@
 //! What the shares of cells and the runs of kernels have to do with the values of a form. Each law is the contract of a function
 //! that does nothing, for provers to call or cite.
 
-ghost use Rattle.std.specs.Prelude.{◌≡◌, ◌≤◌, ◌^◌, ℕ, List, Some, length, slice_get};
+ghost use Rattle.std.specs.Prelude.{◌≡◌, ◌≤◌, ◌^◌, ℕ, suc, List, Some, length, slice_get};
 ghost use Rattle.std.specs.List.{AllByRecursion};
-ghost use Rattle.algebra.specs.Fraction.{Fraction};
+ghost use Rattle.algebra.specs.Ring.{natural};
+ghost use Rattle.algebra.specs.Fraction.{Fraction, mul, inverse, zero_fraction};
+ghost use Rattle.algebra.specs.Fraction as field;
 ghost use Rattle.calculus.specs.Polynomial.{nil, derivative};
 ghost use Rattle.ratio.specs.declared.reduced.Ratio.{Ratio};
 ghost use Rattle.c_unit.specs.declared.unit.CFun.{CFun};
@@ -34,6 +36,7 @@ ghost use Rattle.form_values.specs.HatFunctions.{hat_value};
 ghost use Rattle.form_values.specs.Linear.{HaveArguments, IsMultilinear};
 ghost use Rattle.form_values.specs.Mass.{mass_problem, no_others};
 ghost use Rattle.form_values.specs.Problem.{Problem, IsIn, marker_of, row_count};
+ghost use Rattle.form_values.specs.Worked.{square_problem};
 ghost use Rattle.form_values.specs.Shares.{HasMatrix, Refuses, IsPlanned, IsIntervalMesh};
 
 /// Whatever makes the local tensors of the cells: where each is its cell's shares, their sums by row and column are the values of the
@@ -98,6 +101,13 @@ pub fn mass_case()
         → (row col : ℕ) → hat_value m (fraction_of c) row col ≡ form_value (mass_problem c m) row col }
     ensures rows { (c : Ratio) (m : MeshData Fraction) → m.kind ≡ Interval → IsMesh m
         → row_count (mass_problem c m) (mass_problem c m).test ≡ row_of m.cells (length m.points) }
+{}
+
+/// Worked: on the cells from 0 to 1, with marker 0, and from 3 to 1, with marker 1, the form `x[0]*x[0]*dx(1)` has the value 26/3,
+/// and no other row.
+pub fn worked_value()
+    ensures value { form_value square_problem 0 0 ≡ mul (natural field.fractions 26) (inverse (natural field.fractions 3)) }
+    ensures only { (row : ℕ) → form_value square_problem (suc row) 0 ≡ zero_fraction }
 {}
 
 /// Where the runs of the form's function go to their ends on all cells and their values can be added up, the sums are the values of the
