@@ -7,6 +7,7 @@ pub mod LocalNodeLaws
 pub mod NodeLabels
 pub mod NumberingLaws
 pub mod OccurringLabels
+pub mod RankLaws
 pub mod RowLaws
 pub mod SetLaws
 pub mod SupportLaws

@@ -1,8 +1,6 @@
 -- The numbering of an element
 use Rattle.std.proofs.Common.{◌≡◌, ℕ, zero, suc, ◌+◌, ◌*◌, ◌<◌, ◌≤◌, ◌^◌, true, List, [], ◌∷◌, Some, length, map, take, drop, refl, sym, ap, ap₂, subst, ◌∙◌, arith}
-use Rattle.std.specs.List.{AllByRecursion, All, slice_get, Any, Contains}
-use Rattle.std.specs.List.Sorted.{IsStrictlySortedBy}
-use Rattle.std.specs.declared.cmp.Ordering.TheVariants.{Equal}
+use Rattle.std.specs.List.{AllByRecursion, All, slice_get}
 use Rattle.spaces.specs.declared.cell.Cell.{Cell}
 use Rattle.spaces.specs.declared.parts.Part.{Part}
 use Rattle.spaces.specs.declared.parts.Parts.{Parts}
@@ -16,18 +14,17 @@ use Rattle.mesh_in.specs.MeshData.{MeshData, rows}
 use Rattle.mesh_in.proofs.RowLemmas.{length-rows, row_at, row_inside, whole_rows}
 use Rattle.dofs.specs.declared.key.Key.{Key}
 use Rattle.dofs.specs.Label.{Label}
-use Rattle.dofs.specs.Order.{sorted_set}
-use Rattle.dofs.specs.Arrays.{key_of, label_of, key_cmp, IsSmall}
+use Rattle.dofs.specs.Arrays.{key_of, label_of, IsSmall}
 use Rattle.dofs.specs.Parts.{IsOn}
-use Rattle.dofs.specs.Rows.{Numbering, numbering, occurring, rows_of, cell_rows}
+use Rattle.dofs.specs.Rows.{Numbering, numbering, rows_of, cell_rows}
 use Rattle.dofs.specs.Table.{numbered, IsNumbered}
 use Rattle.dofs.proofs.LocalLaws.{both_true}
-use Rattle.dofs.proofs.SetLaws.{all_append, is_sorted_set}
-use Rattle.dofs.proofs.KeyLaws.{key_total, key_separates, keys_in_order, labels_back}
+use Rattle.dofs.proofs.SetLaws.{all_append}
+use Rattle.dofs.proofs.KeyLaws.{labels_back}
 use Rattle.std.proofs.lemmas.List.{length-map}
 use Rattle.std.proofs.lemmas.List.Elements.{All-take, All-drop, All-from_recursion}
 use Rattle.dofs.proofs.RowLaws.{all_below, all_flat}
-use Rattle.dofs.proofs.TableLaws.{small_occurring, small_rows}
+use Rattle.dofs.proofs.TableLaws.{small_rows}
 
 -- ---- the parts of a lawful element
 on-repeated : (c : Cell) (n : ℕ) (ss : List Scalar) → AllByRecursion (IsOn c) ss → AllByRecursion (IsOn c) (repeated n ss)
@@ -54,13 +51,6 @@ pub parts_length : (ss : List Scalar) (p : Parts) → p ≡ laid_out ss → leng
 parts_length ss p e = ap (λ (q : Parts). length q.items) e ∙ length-placed 0 ss
 
 -- ---- its rows
-pub sorted_keys : (c : Cell) (ss : List Scalar) (cells : List (List ℕ)) (keys labels : List Key) → AllByRecursion (IsOn c) ss → keys ≡ map key_of (occurring c ss cells)
-    → IsStrictlySortedBy key_cmp labels → ((k : Key) → Contains keys k → Any (λ m. key_cmp k m ≡ Equal) labels) → ((k : Key) → Contains labels k → Contains keys k)
-    → labels ≡ map key_of (rows_of c ss cells)
-sorted_keys c ss cells keys labels on is up kept no_more =
-    is_sorted_set key_total key_separates keys labels up kept no_more ∙ ap (sorted_set key_cmp) is
-    ∙ keys_in_order (occurring c ss cells) (small_occurring c ss cells on)
-
 small_counts : (ls : List Label) → AllByRecursion IsSmall ls → AllByRecursion (λ (k : Key). k.support.count ≤ 3) (map key_of ls)
 small_counts [] all = tt
 small_counts (l ∷ ls) all = (all.0.few, small_counts ls all.1)

@@ -1,17 +1,14 @@
 -- Sorted lists of distinct elements
-use Rattle.std.proofs.Common.{◌≡◌, ℕ, zero, suc, ◌+◌, ◌<◌, ◌≤◌, Bool, true, false, List, [], ◌∷◌, ◌++◌, length, get_or, if◌then◌else◌, ◌⊎◌, inl, inr, ⊎_elim, refl, sym, ap, ap₂, subst, ◌∙◌, arith}
+use Rattle.std.proofs.Common.{◌≡◌, ℕ, zero, suc, ◌<◌, ◌≤◌, true, false, List, [], ◌∷◌, ◌++◌, length, get_or, if◌then◌else◌, ◌⊎◌, inl, inr, ⊎_elim, refl, sym, ap, ap₂, subst, ◌∙◌, arith}
 use Rattle.std.specs.declared.cmp.Ordering.{Ordering}
 use Rattle.std.specs.declared.cmp.Ordering.TheVariants.{Less, Equal, Greater}
-use Rattle.std.specs.Ordering.{is_lt, is_eq, eq_by_cmp, ordering_reverse}
-use Rattle.std.specs.Cmp.{IsTotalOrder, IsEquivalence}
-use Rattle.std.specs.List.{AllByRecursion, Any, Contains, HoldsAt, dedup}
-use Rattle.std.specs.List.Retain.{IsFiltered, DiffersFromLast}
-use Rattle.std.specs.List.Sorted.{IsStrictlySortedBy, IsSorted, IsPartitionPoint}
+use Rattle.std.specs.Ordering.{is_lt, ordering_reverse}
+use Rattle.std.specs.Cmp.{IsTotalOrder}
+use Rattle.std.specs.List.{AllByRecursion, Any, Contains, HoldsAt}
+use Rattle.std.specs.List.Sorted.{IsStrictlySortedBy}
 use Rattle.std.proofs.lemmas.Cmp.{tied_itself, alike_right}
 use Rattle.std.proofs.lemmas.Map.Keys.{Less-from_sorted, sorted_head, sorted_tail}
 use Rattle.std.proofs.lemmas.Bool.{cases_eq}
-use Rattle.std.proofs.lemmas.List.Filters.{dedup_is}
-use Rattle.std.proofs.lemmas.List.Kept.{IsStrictlySortedBy-dedup, Any-dedup, Contains-from_dedup}
 use Rattle.dofs.specs.Order.{included, included_by, sorted_set, place}
 
 -- ---- the place of an element
@@ -50,39 +47,6 @@ place_found {K} {R} o x ks i up within here = sym (place_at R x ks i (omega arit
         (λ (ne : i ≡ j → ⊥).
         greater_is _ (sym (alike_right o (get_or ks i d) x (get_or ks j d) (here d)) ∙ greater_from_less o (get_or ks i d) (get_or ks j d) (Less-from_sorted R ks i j d up (omega arith) lt)))
         (cases_eq i j)
-
--- each is less than the next
-pub sorted_from_strict : {K : Type 0} {R : K → K → Ordering} (o : IsTotalOrder R) (ks : List K) → IsStrictlySortedBy R ks → IsSorted R ks
-sorted_from_strict {K} {R} o ks up = λ k d low high.
-    greater_is _ (greater_from_less o (get_or ks k d) (get_or ks (k + 1) d) (Less-from_sorted R ks k (k + 1) d up (omega arith) high))
-
-pub place_between : {K : Type 0} (R : K → K → Ordering) (x : K) (ks : List K) (i : ℕ) → i ≤ length ks
-    → IsPartitionPoint (λ y. R y x ≡ Less) (λ y. R y x ≡ Greater) ks i → i ≡ place R x ks
-place_between {K} R x ks i within point =
-    sym (place_at R x ks i within (λ j d lt. less_is _ (point.0 j d (omega arith) lt)) (λ j d le lt. greater_is _ (point.1 j d le lt)))
-
-pub is_equal : (o : Ordering) → is_eq o ≡ true → o ≡ Equal
-is_equal Less h = cc
-is_equal Equal h = refl
-is_equal Greater h = cc
-
--- an element that counts as the same, by the order in place of the test
-tied_by_order : {K : Type 0} (R : K → K → Ordering) (E : K → K → Bool) (ties : (x y : K) → E x y ≡ eq_by_cmp R x y) (x : K) (ks : List K) → Any (λ y. E x y ≡ true) ks → Any (λ y. R x y ≡ Equal) ks
-tied_by_order R E ties x ks (k, y, within, here, same) = (k, y, within, here, is_equal (R x y) (sym (ties x y) ∙ same))
-
--- ---- a list without repetitions, and where it lies afterwards
-pub distinct_in_order : {K : Type 0} {R : K → K → Ordering} (o : IsTotalOrder R) (E : K → K → Bool) (ties : (x y : K) → E x y ≡ eq_by_cmp R x y) (ks ds zs : List K)
-    → IsSorted R ks → IsFiltered (DiffersFromLast E) [] ks ds → zs ≡ ds → IsStrictlySortedBy R zs
-distinct_in_order {K} {R} o E ties ks ds zs up once same =
-    subst (λ xs. IsStrictlySortedBy R xs) (sym (same ∙ dedup_is E ks ds once)) (IsStrictlySortedBy-dedup o ties ks up)
-
-pub distinct_kept : {K : Type 0} (R : K → K → Ordering) {E : K → K → Bool} (e : IsEquivalence E) (ties : (x y : K) → E x y ≡ eq_by_cmp R x y) (ks ds zs : List K)
-    → IsFiltered (DiffersFromLast E) [] ks ds → zs ≡ ds → (x : K) → Contains ks x → Any (λ y. R x y ≡ Equal) zs
-distinct_kept {K} R {E} e ties ks ds zs once same x h =
-    subst (λ xs. Any (λ y. R x y ≡ Equal) xs) (sym (same ∙ dedup_is E ks ds once)) (tied_by_order R E ties x (dedup E ks) (Any-dedup e ks x h))
-
-pub distinct_no_more : {K : Type 0} (E : K → K → Bool) (ks ds zs : List K) → IsFiltered (DiffersFromLast E) [] ks ds → zs ≡ ds → (x : K) → Contains zs x → Contains ks x
-distinct_no_more E ks ds zs once same x h = Contains-from_dedup E ks x (subst (λ xs. Contains xs x) (same ∙ dedup_is E ks ds once) h)
 
 -- ---- the sorted list of distinct elements is the only one with these elements
 abbrev pub Member : {K : Type 0} → K → List K → Type 0

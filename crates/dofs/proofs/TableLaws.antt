@@ -1,7 +1,8 @@
 -- The labels of the cells, one cell after the other
-use Rattle.std.proofs.Common.{◌≡◌, ℕ, zero, suc, ◌+◌, ◌*◌, ◌<◌, ◌≤◌, true, List, [], ◌∷◌, ◌++◌, Some, length, map, drop, refl, sym, ap, ap₂, ◌∙◌, ◌^◌, arith, add-one, append_assoc, drop-cons, length-append}
+use Rattle.std.proofs.Common.{◌≡◌, ℕ, zero, suc, ◌+◌, ◌*◌, ◌<◌, ◌≤◌, ◌⊎◌, inl, inr, true, List, [], ◌∷◌, ◌++◌, Some, length, map, take, drop, refl, sym, ap, ap₂, ◌∙◌, ◌^◌, arith, add-one, append_assoc, drop-cons, length-append}
 use Rattle.std.specs.List.{AllByRecursion, list_all, slice_get}
-use Rattle.std.proofs.lemmas.List.{map-append, length-map}
+use Rattle.std.proofs.lemmas.List.{map-append, length-map, take_at}
+use Rattle.std.proofs.Math.Seq.{drop-append_seam}
 use Rattle.std.proofs.lemmas.Nat.{mul-le}
 use Rattle.std.proofs.lemmas.Option.{get_or_from_slice_get}
 use Rattle.spaces.specs.declared.cell.Cell.{Cell}
@@ -13,17 +14,18 @@ use Rattle.spaces.proofs.SpaceLaws.{node_count_few}
 use Rattle.spaces.specs.Nodes.{nodes_of}
 use Rattle.spaces.proofs.NodeLaws.{is_node, all_nodes, node_number}
 use Rattle.mesh_in.specs.MeshData.{rows, most}
-use Rattle.mesh_in.proofs.RowLemmas.{rows_push}
 use Rattle.dofs.specs.declared.key.Key.{Key}
-use Rattle.dofs.specs.Label.{weighted, node_label}
-use Rattle.dofs.specs.Order.{label_cmp, place}
+use Rattle.dofs.specs.Label.{Label, weighted, node_label}
+use Rattle.dofs.specs.Order.{label_cmp, place, sorted_set}
 use Rattle.dofs.specs.Arrays.{key_of, IsSmall, key_cmp}
 use Rattle.dofs.specs.Parts.{IsOn}
 use Rattle.dofs.specs.Rows.{part_labels, local_labels, labels_from, constant, constants, occurring, rows_of, cell_rows}
 use Rattle.dofs.proofs.SupportLaws.{length-weighted}
 use Rattle.dofs.proofs.LocalLaws.{first_node, node_sum}
-use Rattle.dofs.proofs.SetLaws.{all_append, all_sorted_set, length-sorted_set}
-use Rattle.dofs.proofs.KeyLaws.{same_places}
+use Rattle.dofs.proofs.SetLaws.{Member, all_append, all_sorted_set, length-sorted_set, is_sorted_set, strict_sorted_set, to_set, from_set, member_from_contains, contains_from_member}
+use Rattle.dofs.proofs.Lists.{member_left, member_right}
+use Rattle.dofs.proofs.RankLaws.{any_member}
+use Rattle.dofs.proofs.KeyLaws.{key_total, key_separates, keys_in_order, same_places}
 
 -- ---- arrays of three are enough
 small_nodes : (c : Cell) (q j : ℕ) (f : Family) (k : ℕ) (vs : List ℕ) (ns : List (List ℕ)) → q ≤ 3 → list_all (is_node c q) ns ≡ true → AllByRecursion IsSmall (map (node_label j f k vs) ns)
@@ -140,34 +142,91 @@ few_rows c ps cells labels on few small e =
       few_occurring c (map scalar_of ps) cells on (omega (arith, length-map ps scalar_of, few)) small,
     )
 
--- the rows of the cells so far, and those of the cells that are left
-pub record IsTable (c : Cell) (ss : List Scalar) (cells : List (List ℕ)) (k : ℕ) (table : List ℕ) : Type 0 where
-  pub size : length table ≡ k * local_size ss
-  pub rows : rows (local_size ss) k table ++ cell_rows c ss (rows_of c ss cells) k (drop k cells) ≡ cell_rows c ss (rows_of c ss cells) zero cells
-
-pub table_more : (c d : Cell) (ss : List Scalar) (cells : List (List ℕ)) (k : ℕ) (vs : List ℕ) (labels keys : List Key) (table after : List ℕ) → AllByRecursion (IsOn c) ss
-    → k < length cells → slice_get cells k ≡ Some vs → d ≡ c → labels ≡ map key_of (rows_of c ss cells) → keys ≡ map key_of (local_labels d zero ss k vs)
-    → after ≡ table ++ map (λ x. place key_cmp x labels) keys → IsTable c ss cells k table → IsTable c ss cells (k + 1) after
-table_more c d ss cells k vs labels keys table after on lt e same sorted local is so_far =
-    let ms = rows_of c ss cells in
-    let row = map (λ l. place label_cmp l ms) (local_labels c zero ss k vs) in
-    let row_is : map (λ x. place key_cmp x labels) keys ≡ row =
-    ap₂ (λ ps ks. map (λ x. place key_cmp x ps) ks) sorted (local ∙ ap (λ b. map key_of (local_labels b zero ss k vs)) same)
-    ∙ same_places (local_labels c zero ss k vs) ms (small_local c zero ss k vs on) (small_rows c ss cells on) in
-    let wide : length row ≡ local_size ss = length-map (local_labels c zero ss k vs) (λ l. place label_cmp l ms) ∙ length_local c zero ss k vs on in
-    let after_is : after ≡ table ++ row = is ∙ ap (λ r. table ++ r) row_is in
-    let left = cell_rows c ss ms (k + 1) (drop (k + 1) cells) in
-    record {
-      size = ap length after_is ∙ length-append table row ∙ ap₂ (λ m n. m + n) so_far.size wide ∙ one_more k (local_size ss);
-      rows = ap (λ t. rows (local_size ss) (k + 1) t ++ left) after_is
-          ∙ ap (λ t. t ++ left) (rows_push (local_size ss) k table row so_far.size wide)
-          ∙ append_assoc (rows (local_size ss) k table) (row ∷ []) left
-          ∙ ap (λ t. rows (local_size ss) k table ++ t) (ap (λ n. row ∷ cell_rows c ss ms n (drop (k + 1) cells)) (add-one k) ∙ ap (cell_rows c ss ms k) (sym (next_cell cells k vs lt e)))
-          ∙ so_far.rows;
-    }
+-- ---- the labels of all cells and the constants, in another order
+swap : {K : Type 0} (z : K) (xs ys : List K) → Member z (xs ++ ys) → Member z (ys ++ xs)
+swap z xs ys m = sides (from_append z xs ys m)
   where
-    one_more : (k w : ℕ) → k * w + w ≡ (k + 1) * w
-    one_more k w = grind arith
+    from_append : {K : Type 0} (z : K) (xs ys : List K) → Member z (xs ++ ys) → Member z xs ⊎ Member z ys
+    from_append z [] ys m = inr m
+    from_append z (x ∷ xs) ys (inl e) = inl (inl e)
+    from_append z (x ∷ xs) ys (inr m) = up (from_append z xs ys m)
+      where
+        up : Member z xs ⊎ Member z ys → Member z (x ∷ xs) ⊎ Member z ys
+        up (inl n) = inl (inr n)
+        up (inr n) = inr n
 
-pub from_empty : {K : Type 0} (before more after : List K) → before ≡ [] → after ≡ before ++ more → after ≡ more
-from_empty before more after none is = is ∙ ap (λ ks. ks ++ more) none
+    sides : Member z xs ⊎ Member z ys → Member z (ys ++ xs)
+    sides (inl n) = member_right z ys xs n
+    sides (inr n) = member_left z ys xs n
+
+swapped : (xs ys : List Key) → sorted_set key_cmp (xs ++ ys) ≡ sorted_set key_cmp (ys ++ xs)
+swapped xs ys =
+    is_sorted_set key_total key_separates (ys ++ xs) (sorted_set key_cmp (xs ++ ys)) (strict_sorted_set key_total (xs ++ ys))
+    (λ z h. any_member z (sorted_set key_cmp (xs ++ ys)) (to_set key_cmp key_separates z (xs ++ ys) (swap z ys xs (member_from_contains (ys ++ xs) z h))))
+    (λ z h. contains_from_member (ys ++ xs) z (swap z xs ys (from_set key_cmp z (xs ++ ys) (member_from_contains (sorted_set key_cmp (xs ++ ys)) z h))))
+
+-- ---- the rows of all cells
+pub labels_made : (c : Cell) (ss : List Scalar) (cells : List (List ℕ)) (keys labels : List Key) → AllByRecursion (IsOn c) ss
+    → keys ≡ map key_of (labels_from c ss 0 cells) ++ map key_of (constants 0 ss) → labels ≡ sorted_set key_cmp keys → labels ≡ map key_of (rows_of c ss cells)
+labels_made c ss cells keys labels on is e =
+    e ∙ ap (sorted_set key_cmp) is ∙ swapped (map key_of (labels_from c ss 0 cells)) (map key_of (constants 0 ss))
+    ∙ ap (sorted_set key_cmp) (sym (map-append key_of (constants 0 ss) (labels_from c ss 0 cells)))
+    ∙ keys_in_order (occurring c ss cells) (small_occurring c ss cells on)
+
+cells_made : (c : Cell) (ss : List Scalar) (ms : List Label) (k : ℕ) (cells : List (List ℕ)) → AllByRecursion (IsOn c) ss → AllByRecursion IsSmall ms
+    → rows (local_size ss) (length cells) (map (λ x. place key_cmp x (map key_of ms)) (map key_of (labels_from c ss k cells))) ≡ cell_rows c ss ms k cells
+unfolding rows
+cells_made c ss ms k [] on small = refl
+cells_made c ss ms k (vs ∷ cells) on small =
+    let here = local_labels c zero ss k vs in
+    let rest = labels_from c ss (suc k) cells in
+    let numbers : List Label → List ℕ = λ ls. map (λ x. place key_cmp x (map key_of ms)) (map key_of ls) in
+    let split : numbers (local_labels c zero ss k vs ++ labels_from c ss (suc k) cells) ≡ numbers (local_labels c zero ss k vs) ++ numbers (labels_from c ss (suc k) cells) =
+    ap (map (λ x. place key_cmp x (map key_of ms))) (map-append key_of (local_labels c zero ss k vs) (labels_from c ss (suc k) cells))
+    ∙ map-append (λ x. place key_cmp x (map key_of ms)) (map key_of (local_labels c zero ss k vs)) (map key_of (labels_from c ss (suc k) cells)) in
+    let wide : length (numbers (local_labels c zero ss k vs)) ≡ local_size ss =
+    length-map (map key_of (local_labels c zero ss k vs)) (λ x. place key_cmp x (map key_of ms)) ∙ length-map (local_labels c zero ss k vs) key_of ∙ length_local c zero ss k vs on in
+    ap₂ (λ r rs. r ∷ rs)
+    (ap (take (local_size ss)) split ∙ take_at (numbers (local_labels c zero ss k vs)) (numbers (labels_from c ss (suc k) cells)) (local_size ss) wide
+    ∙ same_places (local_labels c zero ss k vs) ms (small_local c zero ss k vs on) small)
+    (ap (λ t. rows (local_size ss) (length cells) t)
+    (ap (drop (local_size ss)) split ∙ ap (λ n. drop n (numbers (local_labels c zero ss k vs) ++ numbers (labels_from c ss (suc k) cells))) (sym wide)
+    ∙ drop-append_seam (numbers (local_labels c zero ss k vs)) (numbers (labels_from c ss (suc k) cells)))
+    ∙ cells_made c ss ms (suc k) cells on small)
+
+-- the ranks of the keys in front
+pub ranks_made : (c : Cell) (ss : List Scalar) (cells : List (List ℕ)) (keys : List Key) (n : ℕ) (all ranks : List ℕ) → AllByRecursion (IsOn c) ss
+    → keys ≡ map key_of (labels_from c ss 0 cells) ++ map key_of (constants 0 ss) → all ≡ map (λ k. place key_cmp k (sorted_set key_cmp keys)) keys
+    → n ≡ length cells * local_size ss → ranks ≡ take n all → ranks ≡ map (λ k. place key_cmp k (map key_of (rows_of c ss cells))) (map key_of (labels_from c ss 0 cells))
+ranks_made c ss cells keys n all ranks on is each size front =
+    let f : Key → ℕ = λ k. place key_cmp k (map key_of (rows_of c ss cells)) in
+    let many : length (map f (map key_of (labels_from c ss 0 cells))) ≡ n =
+    length-map (map key_of (labels_from c ss 0 cells)) f ∙ length-map (labels_from c ss 0 cells) key_of ∙ length-from c ss 0 cells on ∙ sym size in
+    front ∙ ap (take n) (each
+    ∙ ap₂ (λ ls ks. map (λ k. place key_cmp k ls) ks) (labels_made c ss cells keys (sorted_set key_cmp keys) on is refl) is
+    ∙ map-append f (map key_of (labels_from c ss 0 cells)) (map key_of (constants 0 ss)))
+    ∙ take_at (map f (map key_of (labels_from c ss 0 cells))) (map f (map key_of (constants 0 ss))) n many
+
+pub ranks_size : (c : Cell) (ss : List Scalar) (cells : List (List ℕ)) (ranks : List ℕ) → AllByRecursion (IsOn c) ss
+    → ranks ≡ map (λ k. place key_cmp k (map key_of (rows_of c ss cells))) (map key_of (labels_from c ss 0 cells)) → length ranks ≡ length cells * local_size ss
+ranks_size c ss cells ranks on is =
+    ap length is ∙ length-map (map key_of (labels_from c ss 0 cells)) (λ k. place key_cmp k (map key_of (rows_of c ss cells))) ∙ length-map (labels_from c ss 0 cells) key_of ∙ length-from c ss 0 cells on
+
+pub rows_made : (c : Cell) (ss : List Scalar) (cells : List (List ℕ)) (ranks : List ℕ) → AllByRecursion (IsOn c) ss
+    → ranks ≡ map (λ k. place key_cmp k (map key_of (rows_of c ss cells))) (map key_of (labels_from c ss 0 cells))
+    → rows (local_size ss) (length cells) ranks ≡ cell_rows c ss (rows_of c ss cells) 0 cells
+rows_made c ss cells ranks on is = ap (rows (local_size ss) (length cells)) is ∙ cells_made c ss (rows_of c ss cells) 0 cells on (small_rows c ss cells on)
+
+pub few_keys : (c : Cell) (ps : List Part) (cells : List (List ℕ)) (keys : List Key) → AllByRecursion (IsOn c) (map scalar_of ps) → length ps ≤ 64 → length cells ≤ most
+    → keys ≡ map key_of (labels_from c (map scalar_of ps) 0 cells) ++ map key_of (constants 0 (map scalar_of ps)) → length keys < 2 ^ 32
+few_keys c ps cells keys on few small is =
+    let ss = map scalar_of ps in
+    omega (
+      arith,
+      ap length is,
+      length-append (map key_of (labels_from c (map scalar_of ps) 0 cells)) (map key_of (constants 0 (map scalar_of ps))),
+      length-map (labels_from c (map scalar_of ps) 0 cells) key_of,
+      length-map (constants 0 (map scalar_of ps)) key_of,
+      length-append (constants zero (map scalar_of ps)) (labels_from c (map scalar_of ps) zero cells),
+      few_occurring c (map scalar_of ps) cells on (omega (arith, length-map ps scalar_of, few)) small,
+    )

@@ -1,6 +1,7 @@
 pub mod Arrays
 pub mod Basis
 pub mod Counting
+pub mod Items
 pub mod Label
 pub mod LocalNodes
 pub mod Order

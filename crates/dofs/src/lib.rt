@@ -11,7 +11,7 @@ pub mod laws;
 mod local;
 mod numbering;
 mod places;
-mod sorted;
+mod ranks;
 mod support;
 mod table;
 

@@ -1,21 +1,17 @@
 //! The numbers of the degrees of freedom.
 
-ghost use Rattle.std.specs.Prelude.{◌≡◌, ◌<◌, ◌≤◌, ◌^◌, length, map, IfOk};
+ghost use Rattle.std.specs.Prelude.{◌≡◌, ◌≤◌, length, map, IfOk};
 ghost use Rattle.std.specs.List.{All, AllByRecursion};
-ghost use Rattle.std.specs.List.Sorted.{IsStrictlySortedBy};
 ghost use Rattle.spaces.specs.Reading.{space_of};
 ghost use Rattle.spaces.specs.Scalar.{scalar_of, local_size};
 ghost use Rattle.spaces.specs.Space.{cell_of, scalars};
-ghost use Rattle.dofs.specs.Arrays.{key_of, key_cmp};
 ghost use Rattle.dofs.specs.Parts.{IsOn};
-ghost use Rattle.dofs.specs.Rows.{rows_of, numbering};
+ghost use Rattle.dofs.specs.Rows.{numbering};
 
 use crate::dof_map::DofMap;
-use crate::key::Key;
-use crate::sorted::sorted;
-use crate::table::{occurring, row_table};
+use crate::table::row_table;
 use mesh_in::Mesh;
-use spaces::{Element, Part, Parts};
+use spaces::{Element, Parts};
 use std::alloc::{AllocError, Global};
 
 /// The scalar parts of an element, with what the two calls in front say of every element.
@@ -30,17 +26,6 @@ fn lawful_parts(alloc: Global, element: &Element) -> Result<Parts, AllocError>
     element.parts(alloc)
 }
 
-/// The labels that occur in order, each once. A mesh has few enough cells for row numbers of 32 bits.
-fn labels_in_order(alloc: Global, mesh: &Mesh, parts: &[Part]) -> Result<Vec<Key>, AllocError>
-    requires few { length parts.now ≤ 64 }
-    requires degrees { AllByRecursion (IsOn mesh.now.kind) (map scalar_of parts.now) }
-    ensures labels { IfOk result (λ labels. labels.items ≡ map key_of (rows_of mesh.now.kind (map scalar_of parts.now) mesh.now.cells)) }
-    ensures order { IfOk result (λ labels. IsStrictlySortedBy key_cmp labels.items) }
-    ensures fit { IfOk result (λ labels. length labels.items < 2 ^ 32) }
-{
-    Ok(sorted(occurring(alloc, mesh, parts)?))
-}
-
 /// Numbers the rows of an element on a mesh of its cells. They are the labels of its scalar parts, part after part (a vector by
 /// component, a tensor by row and column, a list by element). The labels of a part are those that occur in some cell, sorted by
 /// cell (of a discontinuous part alone), then by number of vertices, by vertices and by weights; the constant of the whole mesh
@@ -53,7 +38,6 @@ pub fn number(alloc: Global, m: &Mesh, e: &Element) -> Result<DofMap, AllocError
 {
     let parts = lawful_parts(alloc, e)?;
     let list = parts.items.as_slice();
-    let labels = labels_in_order(alloc, m, list)?;
-    let table = row_table(alloc, m, list, labels.as_slice())?;
-    DofMap::new(alloc, labels, table, parts.local, m.cells())
+    let table = row_table(alloc, m, list, parts.local)?;
+    DofMap::new(alloc, table.labels, table.ranks, parts.local, m.cells())
 }

@@ -11,11 +11,9 @@ use answers::{FormKind, FormRefusal, Outcome};
 use ends::files::{Files, LoadError};
 use mesh_in::{Mesh, read_mesh_of};
 use ratio::Ratio;
+use slices::FORM_LIMIT;
 use spaces::Cell;
 use std::alloc::Global;
-
-/// How many bytes a form file may have.
-pub const FORM_LIMIT: u32 = 262_144;
 
 // The bytes of a file, with one more than the limit at most: that one says that it is too long.
 fn load<F: Files>(

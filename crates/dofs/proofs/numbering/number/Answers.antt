@@ -8,24 +8,24 @@ use Rattle.dofs.proofs.numbering.number.Goals as goal
 
 pub new-requires-clause-numbered : goal.new-requires-clause-numbered
 new-requires-clause-numbered c =
-    is_numbered c.args.m.now.kind (space_of c.args.e.now) c.args.m.now.cells c.in_ok-parts.parts.items c.as_slice-list.result.now c.in_ok-labels.labels.items c.in_ok-table.table.items c.in_ok-parts.parts.local c.cells.result
+    is_numbered c.args.m.now.kind (space_of c.args.e.now) c.args.m.now.cells c.in_ok-parts.parts.items c.as_slice-list.result.now c.in_ok-table.table.labels.items c.in_ok-table.table.ranks.items c.in_ok-parts.parts.local c.cells.result
     (record {
       parts = record { cell = c.requires; on = c.lawful_parts.ensures.degrees; parts = c.in_ok-parts.ensures.parts; same = c.as_slice-list.ensures };
-      labels = c.in_ok-labels.ensures.labels;
+      labels = c.in_ok-table.ensures.labels;
       width = c.in_ok-parts.ensures.local;
       height = c.cells.ensures;
       size = c.in_ok-table.ensures.size;
       table = c.in_ok-table.ensures.rows;
     })
-    c.in_ok-labels.ensures.fit
+    c.in_ok-table.ensures.few
 
 pub returns-clause-rows : goal.returns-clause-rows
 returns-clause-rows c =
     IfOk-weaker c.new.result _ _
-    (λ d e. e ∙ is_numbering c.args.m.now (space_of c.args.e.now) c.in_ok-parts.parts.items c.as_slice-list.result.now c.in_ok-labels.labels.items c.in_ok-table.table.items c.in_ok-parts.parts.local c.cells.result
+    (λ d e. e ∙ is_numbering c.args.m.now (space_of c.args.e.now) c.in_ok-parts.parts.items c.as_slice-list.result.now c.in_ok-table.table.labels.items c.in_ok-table.table.ranks.items c.in_ok-parts.parts.local c.cells.result
     (record {
       parts = record { cell = c.requires; on = c.lawful_parts.ensures.degrees; parts = c.in_ok-parts.ensures.parts; same = c.as_slice-list.ensures };
-      labels = c.in_ok-labels.ensures.labels;
+      labels = c.in_ok-table.ensures.labels;
       width = c.in_ok-parts.ensures.local;
       height = c.cells.ensures;
       size = c.in_ok-table.ensures.size;
@@ -36,16 +36,16 @@ returns-clause-rows c =
 pub returns-clause-cells : goal.returns-clause-cells
 returns-clause-cells c =
     IfOk-weaker c.new.result _ _
-    (λ d e. ap (λ (n : Numbering). length n.cells) e ∙ length-rows c.in_ok-parts.parts.local c.cells.result c.in_ok-table.table.items ∙ c.cells.ensures)
+    (λ d e. ap (λ (n : Numbering). length n.cells) e ∙ length-rows c.in_ok-parts.parts.local c.cells.result c.in_ok-table.table.ranks.items ∙ c.cells.ensures)
     c.new.ensures
 
 pub returns-clause-local : goal.returns-clause-local
 returns-clause-local c =
     IfOk-weaker c.new.result _ _
-    (all_local c.args.m.now.kind (space_of c.args.e.now) c.args.m.now.cells c.in_ok-parts.parts.items c.as_slice-list.result.now c.in_ok-labels.labels.items c.in_ok-table.table.items c.in_ok-parts.parts.local c.cells.result
+    (all_local c.args.m.now.kind (space_of c.args.e.now) c.args.m.now.cells c.in_ok-parts.parts.items c.as_slice-list.result.now c.in_ok-table.table.labels.items c.in_ok-table.table.ranks.items c.in_ok-parts.parts.local c.cells.result
     (record {
       parts = record { cell = c.requires; on = c.lawful_parts.ensures.degrees; parts = c.in_ok-parts.ensures.parts; same = c.as_slice-list.ensures };
-      labels = c.in_ok-labels.ensures.labels;
+      labels = c.in_ok-table.ensures.labels;
       width = c.in_ok-parts.ensures.local;
       height = c.cells.ensures;
       size = c.in_ok-table.ensures.size;
