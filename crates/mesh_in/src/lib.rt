@@ -5,6 +5,7 @@
 #![tactic(auto)]
 
 mod header;
+pub mod laws;
 mod lines;
 mod mesh;
 mod read;
