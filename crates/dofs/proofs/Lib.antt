@@ -1,3 +1,4 @@
+pub mod Counting
 pub mod Elements
 pub mod KeyLaws
 pub mod Lists

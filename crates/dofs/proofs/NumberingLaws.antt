@@ -118,9 +118,9 @@ is_numbering m s items lent keys entries local count h =
     ∙ ap (λ ss. record { labels = rows_of m.kind ss m.cells; cells = cell_rows m.kind ss (rows_of m.kind ss m.cells) 0 m.cells }) (scalars_lent m.kind s items lent h.parts)
 
 -- each cell has a row for each local value
-pub all_local : (kind : Cell) (s : Space) (cells : List (List ℕ)) (items lent : List Part) (keys : List Key) (entries : List ℕ) (local count : ℕ) (n : Numbering) → Makes kind s cells items lent keys entries local count
-    → n ≡ numbered keys entries local count → All (λ row. length row ≡ local_size (scalars s)) n.cells
-all_local kind s cells items lent keys entries local count n h e =
+pub all_local : (kind : Cell) (s : Space) (cells : List (List ℕ)) (items lent : List Part) (keys : List Key) (entries : List ℕ) (local count : ℕ) → Makes kind s cells items lent keys entries local count
+    → (n : Numbering) → n ≡ numbered keys entries local count → All (λ row. length row ≡ local_size (scalars s)) n.cells
+all_local kind s cells items lent keys entries local count h n e =
     subst (λ (m : Numbering). All (λ row. length row ≡ local_size (scalars s)) m.cells) (sym e)
     (subst (λ w. All (λ row. length row ≡ w) (rows local count entries)) h.width
     (All-from_recursion (λ row. length row ≡ local) (rows local count entries)

@@ -119,11 +119,15 @@ few_local : (c : Cell) (ss : List Scalar) → AllByRecursion (IsOn c) ss → loc
 few_local c [] on = omega arith
 few_local c (s ∷ ss) on = omega (arith, few_local c ss on.1, on.0.nodes, node_count_few c s.degree on.0.degree)
 
+few_nodes : (c : Cell) (ss : List Scalar) (cells : ℕ) → AllByRecursion (IsOn c) ss → length ss ≤ 64 → cells ≤ most → cells * local_size ss ≤ 1000000 * 1280
+few_nodes c ss cells on few small = mul-le cells (local_size ss) 1000000 1280 small (omega (arith, few_local c ss on, few))
+
+pub few_places : (c : Cell) (ps : List Part) (cells size : ℕ) → AllByRecursion (IsOn c) (map scalar_of ps) → length ps ≤ 64 → cells ≤ most → size ≡ cells * local_size (map scalar_of ps) → size < 2 ^ 32
+few_places c ps cells size on few small e = omega (arith, e, few_nodes c (map scalar_of ps) cells on (omega (arith, length-map ps scalar_of, few)) small)
+
 few_occurring : (c : Cell) (ss : List Scalar) (cells : List (List ℕ)) → AllByRecursion (IsOn c) ss → length ss ≤ 64 → length cells ≤ most → length (occurring c ss cells) < 2 ^ 32
 few_occurring c ss cells on few small =
-    let local : local_size ss ≤ 1280 = omega (arith, few_local c ss on, few) in
-    let product : length cells * local_size ss ≤ 1000000 * 1280 = mul-le (length cells) (local_size ss) 1000000 1280 small local in
-    omega (arith, length-append (constants zero ss) (labels_from c ss zero cells), length-constants zero ss, length-from c ss zero cells on, product, few)
+    omega (arith, length-append (constants zero ss) (labels_from c ss zero cells), length-constants zero ss, length-from c ss zero cells on, few_nodes c ss (length cells) on few small, few)
 
 pub few_rows : (c : Cell) (ps : List Part) (cells : List (List ℕ)) (labels : List Key) → AllByRecursion (IsOn c) (map scalar_of ps) → length ps ≤ 64 → length cells ≤ most
     → labels ≡ map key_of (rows_of c (map scalar_of ps) cells) → length labels < 2 ^ 32

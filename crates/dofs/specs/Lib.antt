@@ -1,8 +1,10 @@
 pub mod Arrays
 pub mod Basis
+pub mod Counting
 pub mod Label
 pub mod LocalNodes
 pub mod Order
 pub mod Parts
+pub mod Places
 pub mod Rows
 pub mod Table

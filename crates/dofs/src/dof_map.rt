@@ -1,11 +1,14 @@
 //! The degrees of freedom of an element on a mesh.
 
-ghost use Rattle.std.specs.Prelude.{◌≡◌, ◌<◌, Some, length, slice_get};
+ghost use Rattle.std.specs.Prelude.{◌≡◌, ◌<◌, ◌^◌, Some, length, slice_get, IfOk};
 ghost use Rattle.std.specs.List.{All};
 ghost use Rattle.dofs.specs.Rows.{Numbering};
-ghost use Rattle.dofs.specs.Table.{numbered, IsNumbered};
+ghost use Rattle.dofs.specs.Places.{row_places};
+ghost use Rattle.dofs.specs.Table.{numbered, IsNumbered, IsIndexed};
 
 use crate::key::Key;
+use crate::places::{PlacesByRow, RowPlace, group_by_row};
+use std::alloc::{AllocError, Global};
 use std::marker::Model;
 
 /// The rows of an element on a mesh: their labels in order, and the row of each local node of each cell.
@@ -16,6 +19,9 @@ pub struct DofMap {
     rows: Vec<u32>,
     local: u32,
     cells: u32,
+    // Where the places of each row start, and where the last row's end.
+    starts: Vec<u32>,
+    places: Vec<RowPlace>,
 }
 
 impl Model for DofMap {
@@ -23,7 +29,7 @@ impl Model for DofMap {
 
     ghost view = { λ d. numbered d.labels.items d.rows.items d.local d.cells };
 
-    ghost invariant = { λ d. IsNumbered d.labels.items d.rows.items d.local d.cells };
+    ghost invariant = { λ d. IsIndexed d.labels.items d.rows.items d.local d.cells d.starts.items d.places.items };
 }
 
 /// The label of a row. Two local nodes are one degree of freedom exactly where their labels are equal.
@@ -41,16 +47,27 @@ pub struct LabelView<'a> {
 
 impl DofMap {
     /// Of labels in order, and the rows of all cells, so many a cell.
-    pub(crate) fn new(labels: Vec<Key>, rows: Vec<u32>, local: u32, cells: u32) -> DofMap
-        requires { IsNumbered labels.items rows.items local cells }
-        ensures { result ≡ numbered labels.items rows.items local cells }
+    pub(crate) fn new(
+        alloc: Global,
+        labels: Vec<Key>,
+        rows: Vec<u32>,
+        local: u32,
+        cells: u32,
+    ) -> Result<DofMap, AllocError>
+        requires numbered { IsNumbered labels.items rows.items local cells }
+        requires few { length rows.items < 2 ^ 32 }
+        ensures { IfOk result (λ d. d ≡ numbered labels.items rows.items local cells) }
     {
-        DofMap {
+        let count = labels.len() as u32;
+        let PlacesByRow { starts, places } = group_by_row(alloc, &rows, local, cells, count)?;
+        Ok(DofMap {
             labels,
             rows,
             local,
             cells,
-        }
+            starts,
+            places,
+        })
     }
 
     /// The row numbers of the local nodes of cell k, counted from 0: parts in order, nodes in order.
@@ -64,6 +81,20 @@ impl DofMap {
         let (_, rest) = self.rows.split_at(start);
         let (of_cell, _) = rest.split_at(size);
         of_cell
+    }
+
+    /// All places of row n, counted from 0: by cell and then local number. There are none where no row has the number.
+    pub fn cells_of(&self, n: u32) -> &[RowPlace]
+        ensures { result.now ≡ row_places n self.now.cells }
+    {
+        if n >= self.count() {
+            return &self.places[..0];
+        }
+        let start = self.starts[n as usize] as usize;
+        let end = self.starts[n as usize + 1] as usize;
+        let (_, rest) = self.places.split_at(start);
+        let (of_row, _) = rest.split_at(end - start);
+        of_row
     }
 
     /// How many rows there are.

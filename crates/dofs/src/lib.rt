@@ -10,12 +10,14 @@ mod key;
 pub mod laws;
 mod local;
 mod numbering;
+mod places;
 mod sorted;
 mod support;
 mod table;
 
 pub use dof_map::{DofMap, LabelView};
 pub use numbering::number;
+pub use places::RowPlace;
 
 #[cfg(test)]
 mod tests;

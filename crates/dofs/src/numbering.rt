@@ -55,5 +55,5 @@ pub fn number(alloc: Global, m: &Mesh, e: &Element) -> Result<DofMap, AllocError
     let list = parts.items.as_slice();
     let labels = labels_in_order(alloc, m, list)?;
     let table = row_table(alloc, m, list, labels.as_slice())?;
-    Ok(DofMap::new(labels, table, parts.local, m.cells()))
+    DofMap::new(alloc, labels, table, parts.local, m.cells())
 }

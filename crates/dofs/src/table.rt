@@ -64,6 +64,7 @@ pub fn row_table(
     requires order { IsStrictlySortedBy key_cmp labels.now }
     requires fit { length labels.now < 2 ^ 32 }
     ensures size { IfOk result (λ table. length table.items ≡ length mesh.now.cells * local_size (map scalar_of parts.now)) }
+    ensures fit { IfOk result (λ table. length table.items < 2 ^ 32) }
     ensures rows { IfOk result (λ table. rows (local_size (map scalar_of parts.now)) (length mesh.now.cells) table.items
         ≡ cell_rows mesh.now.kind (map scalar_of parts.now) (rows_of mesh.now.kind (map scalar_of parts.now) mesh.now.cells) 0 mesh.now.cells) }
 {

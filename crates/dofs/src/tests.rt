@@ -204,3 +204,17 @@ fn numbers_part_after_part(rt: HostRuntime) -> Result<(), Fail> {
     }
     Ok(())
 }
+
+#[test]
+fn lends_the_places_of_a_row(rt: HostRuntime) -> Result<(), Fail> {
+    let mesh = read_mesh(rt.alloc(), LINE)?;
+    let element = Element::scalar(Family::Lagrange, Cell::Interval, 1).ok_or("a degree")?;
+    assert!(rt; mesh.kind() == element.cell());
+    let map = number(rt.alloc(), &mesh, &element)?;
+    let first = RowPlace { cell: 0, local: 1 };
+    let second = RowPlace { cell: 1, local: 1 };
+    assert_eq!(rt; map.cells_of(1), [first, second].as_slice());
+    assert_eq!(rt; map.cells_of(0).len() + map.cells_of(2).len(), 2);
+    assert!(rt; map.cells_of(3).is_empty());
+    Ok(())
+}

@@ -12,7 +12,7 @@ use Rattle.calculus.specs.LocalFunction.{factorial, falling}
 use Rattle.calculus.proofs.PolynomialLaws.{constant-one, constant-zero, constant-add, constant-mul}
 use Rattle.calculus.proofs.LocalFunctions.{vertex_factor_zero}
 use Rattle.calculus.proofs.FallingProducts as N
-use native.Mathlib.Nat as M
+use Rattle.calculus.proofs.Nodes.{factorial_positive}
 
 -- x (x - 1) .. (x - a + 1) / a!
 abbrev pub binomial : Polynomial → ℕ → Polynomial
@@ -28,10 +28,6 @@ W n = natural fractions n
 not_nought : (n : ℕ) → 0 < n → is_zero_fraction (W n) ≡ false
 not_nought zero h = absurd (omega arith)
 not_nought (suc n) h = natural_apart n
-
-factorial_positive : (n : ℕ) → 0 < factorial n
-factorial_positive zero = omega arith
-factorial_positive (suc n) = M.mul-pos (M.zero-lt-suc n) (factorial_positive n)
 
 whole_next : (n : ℕ) → whole (suc n) ≡ plus one (whole n)
 whole_next n = constant-add one_fraction (W n) ∙ ap (λ o. plus o (whole n)) constant-one

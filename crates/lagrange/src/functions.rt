@@ -7,17 +7,13 @@ ghost use Rattle.calculus.specs.Simplex.{reference};
 ghost use Rattle.calculus.specs.LocalFunction.{degree_of as weight_sum, local_function, node_point, vertex_factor, factorial};
 ghost use Rattle.calculus.proofs.Barycentric.{basis_coordinate};
 ghost use Rattle.calculus.proofs.LocalFunctions.{factors_of};
-ghost use Rattle.polyalg.specs.Terms.{value_of, IsPoly};
-ghost use Rattle.polyalg.specs.Products.{degree_of};
-ghost use Rattle.polyalg.specs.ReferenceIntegral.{VariablesBelow};
-ghost use Rattle.polyalg.specs.Range.{RangeWhere};
-ghost use Rattle.polyalg.specs.Bounds.{CoefficientsOver, HasSize};
+ghost use Rattle.polyalg.specs.Prelude.{value_of, IsPoly, degree_of, VariablesBelow, RangeWhere, CoefficientsOver, HasSize};
 ghost use Rattle.spaces.specs.Cell.{dimension};
 ghost use Rattle.spaces.specs.Family.{node_count};
 ghost use Rattle.spaces.specs.Nodes.{nodes_of};
 ghost use Rattle.lagrange.specs.Bounds.{basis_bound};
 
-use polyalg::{Poly, PolyFault, quotient, whole};
+use polyalg::{Poly, PolyFault, factorial, quotient, whole};
 use ratio::Ratio;
 use spaces::{Cell, weights};
 use std::alloc::{AllocError, Global};
@@ -158,16 +154,4 @@ fn factor(alloc: Global, coordinate: &Poly, q: u8, a: u8) -> Result<Poly, PolyFa
     }
     let function = product.scale(alloc, quotient(1, factorial(a)))?;
     Ok(function)
-}
-
-fn factorial(a: u8) -> u32
-    requires { a ≤ 3 }
-    ensures value { result ≡ factorial a }
-    ensures positive { 0 < result }
-{
-    match a {
-        0 | 1 => 1,
-        2 => 2,
-        _ => 6,
-    }
 }

@@ -7,7 +7,8 @@ use Rattle.ufl_tree.specs.declared.function.Ix.TheVariants.{Named}
 use Rattle.ufl_meaning.specs.Environment.{Environment, parameter_number, raised}
 use Rattle.ufl_tree.specs.Indices.{Names, with_names, index_value, index_values, front, back, named, direction, repeated}
 use Rattle.ufl_meaning.specs.Meaning.{meaning, item_meaning}
-use Rattle.ufl_meaning.specs.Operators.{along, two_value, summed}
+use Rattle.ufl_meaning.specs.Operators.{along, two_value}
+use Rattle.monos.specs.Summed.{summed}
 use Rattle.ufl_tree.specs.Places.{Table}
 use Rattle.ufl_tree.specs.Term.{dx}
 use Rattle.ufl_tree.specs.Typed.{Typed, number, identity, function, piece, one, two, power, index, partial, tensor, list, variable, diff, TypedList, no_items, item, own_kind, shape_of, free_of}

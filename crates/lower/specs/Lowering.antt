@@ -10,7 +10,7 @@ use Rattle.ufl_tree.specs.declared.tree.Op1.TheVariants.{Neg, Grad, NablaGrad, D
 use Rattle.ufl_tree.specs.declared.tree.Op2.{Op2}
 use Rattle.ufl_tree.specs.declared.tree.Op2.TheVariants.{Sum, Product, Dot, Inner, Outer, Cross}
 use Rattle.ufl_tree.specs.Indices.{front, back, followed_by, first_size, last_size, named, direction, repeated}
-use Rattle.ufl_meaning.specs.Operators.{summed}
+use Rattle.monos.specs.Summed.{summed}
 use Rattle.ufl_tree.specs.Places.{Table, Piece, sub_element, element_shape}
 use Rattle.ufl_tree.specs.Term.{Term, num, fun, mark, neg, sum, prod, over, dx, delta, pick, raise, Terms, no_terms, term}
 use Rattle.ufl_tree.specs.Typed.{Typed, number, identity, function, piece, one, two, power, index, partial, tensor, list, variable, diff, TypedList, no_items, item, own_kind, shape_of, free_of}

@@ -1,2 +1,4 @@
 pub mod Monomial
 pub mod Layout
+pub mod Summed
+pub mod Prelude

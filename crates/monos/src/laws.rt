@@ -1,14 +1,11 @@
 //! What is proved of monomials and layouts. Each law is the contract of a function that does nothing, for provers to call or cite.
 
 ghost use Rattle.std.specs.Prelude.{◌≡◌, ℕ, ◌+◌, ◌*◌, ◌<◌, ◌≤◌, Some, length, slice_get};
-ghost use Rattle.spaces.specs.declared.cell.Cell.{Cell};
-ghost use Rattle.spaces.specs.declared.parts.Part.{Part};
-ghost use Rattle.spaces.specs.declared.parts.Parts.{Parts};
-ghost use Rattle.spaces.specs.Cell.{dimension};
-ghost use Rattle.ufl_tree.specs.declared.function.Role.{Role};
+ghost use Rattle.monos.specs.Prelude.{Cell, Part, Parts, Role};
 ghost use Rattle.monos.specs.declared.layout.CoefPlace.{CoefPlace};
 ghost use Rattle.monos.specs.declared.layout.Layout.{Layout};
 ghost use Rattle.monos.specs.declared.mono.Atom.{Atom};
+ghost use Rattle.spaces.specs.Cell.{dimension};
 ghost use Rattle.monos.specs.Monomial.{directions, derivative_count};
 ghost use Rattle.monos.specs.Layout.{IsLawfulLayout, MayBeOn, HasPlace, position_parts, role_parts, place_of, value_count, line_layout};
 

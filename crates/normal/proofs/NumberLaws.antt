@@ -1,5 +1,5 @@
 -- What a weight says of each monomial of a tree
-use Rattle.std.proofs.Common.{◌≡◌, ℕ, zero, suc, ◌+◌, ◌-◌, ◌*◌, ◌≤◌, ◌==◌, max, min, Bool, true, false, List, [], ◌∷◌, ◌++◌, length, Option, None, Some, slice_get, IsPermutation, if◌then◌else◌, refl, sym, ◌∙◌, ap, subst, arith}
+use Rattle.std.proofs.Common.{◌≡◌, ℕ, zero, suc, ◌+◌, ◌-◌, ◌*◌, ◌≤◌, ◌==◌, max, Bool, true, false, List, [], ◌∷◌, ◌++◌, length, Option, None, Some, slice_get, IsPermutation, if◌then◌else◌, refl, sym, ◌∙◌, ap, subst, arith}
 use Rattle.std.specs.List.{AllByRecursion}
 use Prim.Native.Nat.{◌∣◌}
 use native.Mathlib.Nat as N
@@ -17,7 +17,7 @@ use Rattle.weigh.specs.Lists.{costs, lists_below}
 use Rattle.weigh.specs.Steps.{number_step, one_step, times_step, both_step, index_step, space_step, label_step}
 use Rattle.weigh.specs.Terms.{term_weight, term_directions, items_weight}
 use Rattle.weigh.specs.Weighing.{parts_weight, scalars_in, function_weight}
-use Rattle.weigh.proofs.LcmLaws.{lcm_left, lcm_right}
+use Rattle.weigh.proofs.BoundsLaws.{join_first, join_second}
 use Rattle.weigh.proofs.ListLaws.{all_append}
 use Rattle.normal.specs.Bounding.{function_sum, HasNumbers, HaveNumbers}
 use Rattle.normal.specs.Collecting.{merged, nonzero, IsSortedOut}
@@ -35,37 +35,12 @@ record IsWider (k w : Weight) : Type 0 where
   fac : w.fac ∣ k.fac
   s : w.s ≤ k.s
 
-left : (m n : ℕ) → m ≤ max m n
-left m n = omega arith
-
-right : (m n : ℕ) → n ≤ max m n
-right m n = omega arith
-
-low_left : (m n : ℕ) → min m n ≤ m
-low_left m n = omega arith
-
-low_right : (m n : ℕ) → min m n ≤ n
-low_right m n = omega arith
-
+-- what puts two weights together keeps of each what a list does
 first_wider : (put : ℕ → ℕ → ℕ) (a b : Weight) → IsWider (both_step put a b) a
-first_wider put a b = record {
-  f = left a.f b.f;
-  rmin = low_left a.rmin b.rmin;
-  rmax = left a.rmax b.rmax;
-  deg = left a.deg b.deg;
-  fac = lcm_left a.fac b.fac;
-  s = left a.s b.s;
-}
+first_wider put a b = let h = join_first a b in record { f = h.f; rmin = h.rmin; rmax = h.rmax; deg = h.deg; fac = h.fac; s = h.s }
 
 second_wider : (put : ℕ → ℕ → ℕ) (a b : Weight) → IsWider (both_step put a b) b
-second_wider put a b = record {
-  f = right a.f b.f;
-  rmin = low_right a.rmin b.rmin;
-  rmax = right a.rmax b.rmax;
-  deg = right a.deg b.deg;
-  fac = lcm_right a.fac b.fac;
-  s = right a.s b.s;
-}
+second_wider put a b = let h = join_second a b in record { f = h.f; rmin = h.rmin; rmax = h.rmax; deg = h.deg; fac = h.fac; s = h.s }
 
 label_wider : (n : ℕ) (a : Weight) → IsWider (label_step n a) a
 label_wider n a = record { f = N.le_refl a.f; rmin = N.le_refl a.rmin; rmax = N.le_refl a.rmax; deg = N.le_refl a.deg; fac = N.dvd_refl a.fac; s = N.le_refl a.s }

@@ -14,7 +14,7 @@ use Rattle.weigh.specs.Steps.{one_step, times_step, join_step, plus_step, index_
 use Rattle.weigh.specs.Terms.{function_directions, term_directions, items_directions, term_weight, items_weight}
 use Rattle.perturb.specs.Expanding.{deltas, by_variable, all_by_variable, linear, all_linear, expand, expand_all}
 use Rattle.lower.specs.Renaming.{zero_term, Renaming, with_index, all_renamed}
-use Rattle.weigh.proofs.SoundLaws.{times_sound, plus_sound, join_sound, index_sound, space_sound, linear_sound}
+use Rattle.weigh.proofs.SoundLaws.{leaf_sound, times_sound, plus_sound, join_sound, index_sound, space_sound, linear_sound}
 use Rattle.weigh.proofs.BoundsLaws.{bounds_refl, bounds_trans, times_bounds, plus_bounds, join_bounds, index_bounds, space_bounds, linear_bounds, label_bounds, max_even, sum_even}
 use Rattle.perturb.proofs.LinearLaws.{units, units_bounds, linear_one_bounds, linear_both, linear_times, linear_label, linear_index, linear_space, label_more, linear_more}
 use Rattle.weigh.proofs.TermLaws.{directions_positive, term_sound, items_sound}
@@ -33,21 +33,8 @@ module _ (a x : Weight) (p : IsSound a) (q : IsSound x) (h : Bounds (linear_step
 
   label_through : (n : ℕ) (u : Weight) → Bounds (units (n + 1)) u → Bounds (linear_step (label_step n a)) (plus_step x u)
   label_through n u k =
-      bounds_trans _ (plus_step (linear_step a) (units (n + 1))) _ (plus_sound (linear_step a) (units (n + 1)) (linear_sound a p) (units_sound n)).den
+      bounds_trans _ (plus_step (linear_step a) (units (n + 1))) _ (plus_sound (linear_step a) (units (n + 1)) (linear_sound a p) (leaf_sound 0 (n + 1) 1 1 (omega arith) (omega arith) (omega arith) (omega arith))).den
       (linear_label n a p) (plus_bounds (linear_step a) x (units (n + 1)) u q h k)
-    where
-      units_sound : (n : ℕ) → IsSound (units (n + 1))
-      units_sound n = record {
-        cost = omega arith;
-        g = omega arith;
-        den = omega arith;
-        fac = omega arith;
-        s = omega arith;
-        parts = omega arith;
-        functions = omega arith;
-        derivatives = omega arith;
-        few = omega arith;
-      }
 
   -- the label is another one, or gone
   label_drops : (n : ℕ) → Bounds (linear_step (label_step n a)) x

@@ -1,6 +1,5 @@
 -- The coefficients of a parameter through the operations of trees
 use Rattle.std.proofs.Common.{◌≡◌, ℕ, zero, suc, ◌+◌, ◌<◌, arith}
-use Rattle.algebra.specs.RingLaws as L
 use Rattle.algebra.specs.Fraction.{fractions}
 use Rattle.calculus.specs.Powers.{delta}
 use Rattle.calculus.specs.Rational.{rationals}

@@ -6,7 +6,7 @@ use Rattle.monos.specs.declared.weight.Weight.{Weight}
 use Rattle.weigh.specs.Bounds.{Bounds, IsSound}
 use Rattle.weigh.specs.Steps.{lcm, one_step, times_step, both_step, plus_step, index_step, space_step, linear_step, label_step}
 use Rattle.weigh.proofs.LcmLaws.{times_of, lcm_left, lcm_least}
-use Rattle.weigh.proofs.BoundsLaws.{IsEven}
+use Rattle.weigh.proofs.BoundsLaws.{IsEven, bounds_refl, changed_bounds}
 
 -- ---- the number 1, under some labels
 -- a product of n Kronecker symbols
@@ -14,18 +14,8 @@ abbrev pub units : ℕ → Weight
 units n = record one_step { g = n }
 
 pub units_bounds : (n m : ℕ) → m ≤ n → Bounds (units n) (units m)
-units_bounds n m p = record {
-  cost = omega arith;
-  deg = omega arith;
-  g = p;
-  f = omega arith;
-  rmin = omega arith;
-  rmax = omega arith;
-  s = omega arith;
-  den = N.dvd_refl 1;
-  fac = N.dvd_refl 1;
-  num = omega arith;
-}
+units_bounds n m p =
+    changed_bounds one_step one_step 1 1 n m 1 1 0 0 (bounds_refl one_step) (N.le_refl 1) p (N.le_refl 1) (N.le_refl 0)
 
 pub linear_one_bounds : (a : Weight) → IsSound a → Bounds (linear_step a) one_step
 linear_one_bounds a p = record {
@@ -136,18 +126,9 @@ turned : (c n g : ℕ) → c * g * n ≤ c * n * g
 turned c n g = omega arith
 
 pub linear_index : (n : ℕ) (a : Weight) → Bounds (linear_step (index_step n a)) (index_step n (linear_step a))
-linear_index n a = record {
-  cost = turned a.cost (max n 1) a.g;
-  deg = N.le_refl a.deg;
-  g = N.le_refl a.g;
-  f = N.le_refl a.f;
-  rmin = N.le_refl 0;
-  rmax = N.le_refl a.rmax;
-  s = N.le_refl a.s;
-  den = N.dvd_refl a.den;
-  fac = N.dvd_refl a.fac;
-  num = N.le_refl (a.num * a.g * a.den);
-}
+linear_index n a =
+    changed_bounds a a (a.cost * max n 1 * a.g) (a.cost * a.g * max n 1) a.g a.g (a.num * a.g) (a.num * a.g) 0 0 (bounds_refl a)
+    (turned a.cost (max n 1) a.g) (N.le_refl a.g) (N.le_refl (a.num * a.g * a.den)) (N.le_refl 0)
 
 turned_twice : (c d g : ℕ) → c * g * g * d ≤ c * g * d * g
 turned_twice c d g = omega arith
@@ -168,29 +149,11 @@ linear_space d a = record {
 
 -- ---- the step bounds its operand
 pub label_more : (n : ℕ) (a : Weight) → Bounds (label_step n a) a
-label_more n a = record {
-  cost = N.le_refl a.cost;
-  deg = N.le_refl a.deg;
-  g = omega arith;
-  f = N.le_refl a.f;
-  rmin = N.le_refl a.rmin;
-  rmax = N.le_refl a.rmax;
-  s = N.le_refl a.s;
-  den = N.dvd_refl a.den;
-  fac = N.dvd_refl a.fac;
-  num = N.le_refl (a.num * a.den);
-}
+label_more n a =
+    changed_bounds a a a.cost a.cost (a.g + max n 1) a.g a.num a.num a.rmin a.rmin (bounds_refl a)
+    (N.le_refl a.cost) (omega arith) (N.le_refl (a.num * a.den)) (N.le_refl a.rmin)
 
 pub linear_more : (a : Weight) → IsSound a → Bounds (linear_step a) a
-linear_more a p = record {
-  cost = N.le-mul_of_pos_right a.cost p.g;
-  deg = N.le_refl a.deg;
-  g = N.le_refl a.g;
-  f = N.le_refl a.f;
-  rmin = omega arith;
-  rmax = N.le_refl a.rmax;
-  s = N.le_refl a.s;
-  den = N.dvd_refl a.den;
-  fac = N.dvd_refl a.fac;
-  num = N.mul-le-mul_right a.den (N.le-mul_of_pos_right a.num p.g);
-}
+linear_more a p =
+    changed_bounds a a (a.cost * a.g) a.cost a.g a.g (a.num * a.g) a.num 0 a.rmin (bounds_refl a)
+    (N.le-mul_of_pos_right a.cost p.g) (N.le_refl a.g) (N.mul-le-mul_right a.den (N.le-mul_of_pos_right a.num p.g)) (omega arith)

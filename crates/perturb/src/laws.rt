@@ -2,14 +2,10 @@
 //! provers to call or cite.
 
 ghost use Rattle.std.specs.Prelude.{◌≡◌, ℕ};
-ghost use Rattle.ufl_tree.specs.Indices.{Names};
-ghost use Rattle.ufl_tree.specs.Places.{Table};
-ghost use Rattle.ufl_tree.specs.Term.{Term};
-ghost use Rattle.ufl_meaning.specs.Environment.{Environment, HasOnlyUsed};
-ghost use Rattle.ufl_meaning.specs.Meaning.{meaning};
+ghost use Rattle.monos.specs.Prelude.{Names, Table, Term};
 ghost use Rattle.monos.specs.declared.weight.Weight.{Weight};
-ghost use Rattle.weigh.specs.Bounds.{Bounds};
-ghost use Rattle.weigh.specs.Terms.{term_weight};
+ghost use Rattle.ufl_meaning.specs.Prelude.{Environment, HasOnlyUsed, meaning};
+ghost use Rattle.weigh.specs.Prelude.{Bounds, term_weight};
 ghost use Rattle.lower.specs.Renaming.{Renaming};
 ghost use Rattle.perturb.specs.Expanding.{expand, IsReady, Stands};
 

@@ -1,5 +1,5 @@
 -- Derivatives, term by term
-use Rattle.std.proofs.Common.{max, ◌≡◌, ℕ, zero, suc, ◌+◌, ◌-◌, ◌^◌, ◌<◌, ◌≤◌, true, false, ◌||◌, ◌&&◌, nat_lt, is_none, Some, None, List, [], ◌∷◌, ◌++◌, refl, sym, ap, ap₂, ◌∙◌, subst, arith, length}
+use Rattle.std.proofs.Common.{◌≡◌, ℕ, zero, suc, ◌+◌, ◌-◌, ◌^◌, ◌<◌, ◌≤◌, true, false, ◌||◌, ◌&&◌, nat_lt, is_none, Some, None, List, [], ◌∷◌, ◌++◌, refl, sym, ap, ap₂, ◌∙◌, subst, arith, length}
 use Rattle.std.proofs.Math.ListN.{set}
 use Rattle.algebra.specs.Ring.{natural}
 use Rattle.algebra.specs.Fraction.{Fraction, fractions, mul, mul_comm}
@@ -15,6 +15,7 @@ use Rattle.polyalg.specs.Terms.{term_value, value_of, Rising, keys_and, AreTerms
 use Rattle.polyalg.specs.Products.{degree_of}
 use Rattle.polyalg.specs.Range.{derivative_passes}
 use Rattle.polyalg.specs.declared.term.Term.{Term}
+use Rattle.polyalg.proofs.MappedLaws.{Mapped, mapped_begin, mapped_value, mapped_passes, mapped_degree}
 use Rattle.polyalg.proofs.MonomialLaws.{monomial-derivative, monomial-zero}
 use Rattle.polyalg.proofs.SortedLaws.{value_of-kept, terms_kept, degree_kept, rising_kept, rising_skip, rising_front, unraised}
 use Rattle.polyalg.proofs.StepLaws.{product_is, some_is_not_none, none_is_none}
@@ -74,18 +75,11 @@ lowered_at k n e h three = by_three (λ e. exponent e k ≡ suc n → Lowered k 
   at (suc (suc (suc k))) h x y z g = absurd (omega arith)
 
 -- how far a derivative has come
-pub record Derived (k : ℕ) (out left all : List Term) : Type 0 where
-  pub value : plus (value_of out) (derivative k (value_of left)) ≡ derivative k (value_of all)
-  pub passes : derivative_passes k left ≡ derivative_passes k all
-  pub rising : Rising (keys_and (unit_of k) out ++ keys_and 0 left)
-  pub there : AreTerms out
-  pub remain : AreTerms left
-  pub degree : max (degree_of out) (degree_of left) ≤ degree_of all
+abbrev pub Derived : ℕ → List Term → List Term → List Term → Type 0
+Derived k = Mapped (derivative k) (derivative_passes k) (unit_of k)
 
 pub derived_begin : (k : ℕ) (out all : List Term) → out ≡ [] → IsPoly all → Derived k out all all
-derived_begin k out all e p =
-    subst (λ us. Derived k us all all) (sym e)
-    (record { value = L.zero-add polynomials (derivative k (value_of all)); passes = refl; rising = p.sorted; there = tt; remain = p.terms; degree = omega arith })
+derived_begin k = mapped_begin (derivative k) (derivative_passes k) (unit_of k)
 
 pub derivative-nil : (k : ℕ) → derivative k nil ≡ nil
 derivative-nil k = ap (derivative k) (sym constant-zero) ∙ derivative-constant k _
@@ -172,18 +166,17 @@ derived_fails k n out left all rest t is e h s =
     ∙ ap (λ b. b || derivative_passes k rest) (none_is_none (product (fraction_of t.c) (natural fractions (suc n))) h)
 
 pub derived_value : (k : ℕ) (out left all : List Term) → left ≡ [] → Derived k out left all → value_of out ≡ derivative k (value_of all)
-derived_value k out left all e s =
-    sym (plus-nil (value_of out)) ∙ ap (plus (value_of out)) (sym (derivative-nil k)) ∙ ap (λ ts. plus (value_of out) (derivative k (value_of ts))) (sym e) ∙ s.value
+derived_value k = mapped_value (derivative k) (derivative_passes k) (unit_of k) (derivative-nil k)
 
 pub derived_passes : (k : ℕ) (out left all : List Term) → left ≡ [] → Derived k out left all → derivative_passes k all ≡ false
-derived_passes k out left all e s = sym s.passes ∙ ap (derivative_passes k) e
+derived_passes k = mapped_passes (derivative k) (derivative_passes k) (unit_of k)
 
 pub derived_lawful : (k : ℕ) (out left all : List Term) → Derived k out left all → IsPoly out
 derived_lawful k out left all s =
     record { sorted = unraised (unit_of k) out (rising_front (keys_and (unit_of k) out) (keys_and 0 left) s.rising); terms = s.there }
 
 pub derived_degree : (k : ℕ) (out left all : List Term) → Derived k out left all → degree_of out ≤ degree_of all
-derived_degree k out left all s = omega (arith, s.degree)
+derived_degree k = mapped_degree (derivative k) (derivative_passes k) (unit_of k)
 
 -- ---- no term has a variable of 3 or more
 pub nothing_beyond : (k : ℕ) → 3 ≤ k → (e : List ℕ) → length e ≡ 3 → exponent e k ≡ 0

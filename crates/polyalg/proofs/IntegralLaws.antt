@@ -111,15 +111,6 @@ factor_value d a b c f h e = first (raised d a (over 1 (factorial d))) refl e wh
   first (Some f1) k e = second f1 k (raised (d + a) b f1) refl e
 
 -- ---- terms as products of powers
-abbrev X : Polynomial
-X = coordinate 0
-
-abbrev Y : Polynomial
-Y = coordinate 1
-
-abbrev Z : Polynomial
-Z = coordinate 2
-
 nothing_more : (i : ℕ) → exponent [] i ≡ exponent [] i + exponent [] i
 nothing_more i = omega arith
 
@@ -132,31 +123,31 @@ unit_power p u v e z s (suc n) =
 no_power : monomial one_fraction (0 ∷ 0 ∷ 0 ∷ []) ≡ one
 no_power = constant_monomial one_fraction ∙ constant-one
 
-power_X : (n : ℕ) → power X n ≡ monomial one_fraction (n ∷ 0 ∷ 0 ∷ [])
-power_X = unit_power X (1 ∷ 0 ∷ 0 ∷ []) (λ n. n ∷ 0 ∷ 0 ∷ []) coordinate_0 no_power more where
+power_X : (n : ℕ) → power (coordinate 0) n ≡ monomial one_fraction (n ∷ 0 ∷ 0 ∷ [])
+power_X = unit_power (coordinate 0) (1 ∷ 0 ∷ 0 ∷ []) (λ n. n ∷ 0 ∷ 0 ∷ []) coordinate_0 no_power more where
   more : (n i : ℕ) → exponent (suc n ∷ 0 ∷ 0 ∷ []) i ≡ exponent (1 ∷ 0 ∷ 0 ∷ []) i + exponent (n ∷ 0 ∷ 0 ∷ []) i
   more n zero = omega arith
   more n (suc zero) = omega arith
   more n (suc (suc zero)) = omega arith
   more n (suc (suc (suc i))) = nothing_more i
 
-power_Y : (n : ℕ) → power Y n ≡ monomial one_fraction (0 ∷ n ∷ 0 ∷ [])
-power_Y = unit_power Y (0 ∷ 1 ∷ 0 ∷ []) (λ n. 0 ∷ n ∷ 0 ∷ []) coordinate_1 no_power more where
+power_Y : (n : ℕ) → power (coordinate 1) n ≡ monomial one_fraction (0 ∷ n ∷ 0 ∷ [])
+power_Y = unit_power (coordinate 1) (0 ∷ 1 ∷ 0 ∷ []) (λ n. 0 ∷ n ∷ 0 ∷ []) coordinate_1 no_power more where
   more : (n i : ℕ) → exponent (0 ∷ suc n ∷ 0 ∷ []) i ≡ exponent (0 ∷ 1 ∷ 0 ∷ []) i + exponent (0 ∷ n ∷ 0 ∷ []) i
   more n zero = omega arith
   more n (suc zero) = omega arith
   more n (suc (suc zero)) = omega arith
   more n (suc (suc (suc i))) = nothing_more i
 
-power_Z : (n : ℕ) → power Z n ≡ monomial one_fraction (0 ∷ 0 ∷ n ∷ [])
-power_Z = unit_power Z (0 ∷ 0 ∷ 1 ∷ []) (λ n. 0 ∷ 0 ∷ n ∷ []) coordinate_2 no_power more where
+power_Z : (n : ℕ) → power (coordinate 2) n ≡ monomial one_fraction (0 ∷ 0 ∷ n ∷ [])
+power_Z = unit_power (coordinate 2) (0 ∷ 0 ∷ 1 ∷ []) (λ n. 0 ∷ 0 ∷ n ∷ []) coordinate_2 no_power more where
   more : (n i : ℕ) → exponent (0 ∷ 0 ∷ suc n ∷ []) i ≡ exponent (0 ∷ 0 ∷ 1 ∷ []) i + exponent (0 ∷ 0 ∷ n ∷ []) i
   more n zero = omega arith
   more n (suc zero) = omega arith
   more n (suc (suc zero)) = omega arith
   more n (suc (suc (suc i))) = nothing_more i
 
-product_of_powers : (a b c : ℕ) → times (power X a) (times (power Y b) (power Z c)) ≡ monomial one_fraction (a ∷ b ∷ c ∷ [])
+product_of_powers : (a b c : ℕ) → times (power (coordinate 0) a) (times (power (coordinate 1) b) (power (coordinate 2) c)) ≡ monomial one_fraction (a ∷ b ∷ c ∷ [])
 product_of_powers a b c =
     ap₂ times (power_X a) (ap₂ times (power_Y b) (power_Z c) ∙ monomial-times one_fraction one_fraction (0 ∷ b ∷ 0 ∷ []) (0 ∷ 0 ∷ c ∷ []) (0 ∷ b ∷ c ∷ []) inner ∙ ap (λ k. monomial k (0 ∷ b ∷ c ∷ [])) (mul_one one_fraction))
     ∙ monomial-times one_fraction one_fraction (a ∷ 0 ∷ 0 ∷ []) (0 ∷ b ∷ c ∷ []) (a ∷ b ∷ c ∷ []) outer
@@ -192,9 +183,9 @@ integral_is I f n m w e h k =
 three_products : (a b c : ℕ) → mul (W a) (mul (W b) (W c)) ≡ W (a * (b * c))
 three_products a b c = ap (mul (W a)) (sym (natural-mul fractions b c)) ∙ sym (natural-mul fractions a (b * c))
 
-term_on_line : (a : ℕ) (f : Fraction) → factor_of 1 (a ∷ 0 ∷ 0 ∷ []) ≡ Some f → shadow_integral 1 (reference 1) (times (power X a) (times (power Y 0) (power Z 0))) ≡ constant f
+term_on_line : (a : ℕ) (f : Fraction) → factor_of 1 (a ∷ 0 ∷ 0 ∷ []) ≡ Some f → shadow_integral 1 (reference 1) (times (power (coordinate 0) a) (times (power (coordinate 1) 0) (power (coordinate 2) 0))) ≡ constant f
 term_on_line a f e =
-    ap (shadow_integral 1 (reference 1)) (Solve.ring polynomials (power X a ∷ []) (at 0 ⊗ (unity ⊗ unity)) (unity ⊗ at 0) refl)
+    ap (shadow_integral 1 (reference 1)) (Solve.ring polynomials (power (coordinate 0) a ∷ []) (at 0 ⊗ (unity ⊗ unity)) (unity ⊗ at 0) refl)
     ∙ integral_is _ f (0 + suc a) (factorial 0 * factorial a) (mul (W (factorial a)) (mul (W (factorial 0)) (W (factorial 0)))) (interval_powers 0 a)
     (let n : 0 + suc a ≡ 1 + a + 0 + 0 = omega arith in ap (λ k. mul f (W (factorial k))) n ∙ factor_value 1 a 0 0 f (omega arith) e)
     (three_products (factorial a) (factorial 0) (factorial 0) ∙ ap W (one_more (factorial a)))
@@ -202,9 +193,9 @@ term_on_line a f e =
     one_more : (n : ℕ) → n * (1 * 1) ≡ 1 * n
     one_more n = omega arith
 
-term_on_plane : (a b : ℕ) (f : Fraction) → factor_of 2 (a ∷ b ∷ 0 ∷ []) ≡ Some f → shadow_integral 2 (reference 2) (times (power X a) (times (power Y b) (power Z 0))) ≡ constant f
+term_on_plane : (a b : ℕ) (f : Fraction) → factor_of 2 (a ∷ b ∷ 0 ∷ []) ≡ Some f → shadow_integral 2 (reference 2) (times (power (coordinate 0) a) (times (power (coordinate 1) b) (power (coordinate 2) 0))) ≡ constant f
 term_on_plane a b f e =
-    ap (shadow_integral 2 (reference 2)) (Solve.ring polynomials (power X a ∷ power Y b ∷ []) (at 0 ⊗ (at 1 ⊗ unity)) (at 0 ⊗ at 1) refl)
+    ap (shadow_integral 2 (reference 2)) (Solve.ring polynomials (power (coordinate 0) a ∷ power (coordinate 1) b ∷ []) (at 0 ⊗ (at 1 ⊗ unity)) (at 0 ⊗ at 1) refl)
     ∙ integral_is _ f (a + suc (suc b)) (factorial a * factorial b) (mul (W (factorial a)) (mul (W (factorial b)) (W (factorial 0)))) (triangle_powers a b)
     (let n : a + suc (suc b) ≡ 2 + a + b + 0 = omega arith in ap (λ k. mul f (W (factorial k))) n ∙ factor_value 2 a b 0 f (omega arith) e)
     (three_products (factorial a) (factorial b) (factorial 0) ∙ ap (λ n. W (factorial a * n)) (one_less (factorial b)))
@@ -212,7 +203,7 @@ term_on_plane a b f e =
     one_less : (n : ℕ) → n * 1 ≡ n
     one_less n = omega arith
 
-term_in_space : (a b c : ℕ) (f : Fraction) → factor_of 3 (a ∷ b ∷ c ∷ []) ≡ Some f → shadow_integral 3 (reference 3) (times (power X a) (times (power Y b) (power Z c))) ≡ constant f
+term_in_space : (a b c : ℕ) (f : Fraction) → factor_of 3 (a ∷ b ∷ c ∷ []) ≡ Some f → shadow_integral 3 (reference 3) (times (power (coordinate 0) a) (times (power (coordinate 1) b) (power (coordinate 2) c))) ≡ constant f
 term_in_space a b c f e =
     integral_is _ f (a + (b + suc (suc (suc c)))) (factorial a * (factorial b * factorial c)) (mul (W (factorial a)) (mul (W (factorial b)) (W (factorial c)))) (tetrahedron_powers a b c)
     (let n : a + (b + suc (suc (suc c))) ≡ 3 + a + b + c = omega arith in ap (λ k. mul f (W (factorial k))) n ∙ factor_value 3 a b c f (omega arith) e)

@@ -2,6 +2,7 @@ pub mod MonomialLaws
 pub mod SortedLaws
 pub mod SmallLaws
 pub mod StepLaws
+pub mod MappedLaws
 pub mod ScaledLaws
 pub mod DerivedLaws
 pub mod MergedLaws

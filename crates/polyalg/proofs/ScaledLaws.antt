@@ -1,17 +1,18 @@
 -- Multiples, term by term
-use Rattle.std.proofs.Common.{max, ◌≤◌, ◌≡◌, ℕ, ◌+◌, ◌-◌, ◌<◌, true, false, ◌||◌, Some, None, List, [], ◌∷◌, ◌++◌, refl, sym, ap, ap₂, ◌∙◌, subst, arith, length, take, drop, length-drop, get_or, drop-cons, add-one}
+use Rattle.std.proofs.Common.{◌≤◌, ◌≡◌, ℕ, ◌+◌, ◌-◌, ◌<◌, true, false, ◌||◌, Some, None, List, [], ◌∷◌, ◌++◌, refl, sym, ap, ap₂, ◌∙◌, subst, arith, length, take, drop, length-drop, get_or, drop-cons, add-one}
 use Rattle.std.proofs.lemmas.List.{take_all}
 use Rattle.algebra.specs.Fraction.{Fraction, mul_comm}
 use Rattle.algebra.specs.RingLaws as L
 use Rattle.algebra.specs.Steps.{product}
 use Rattle.ratio.specs.declared.reduced.Ratio.{Ratio}
 use Rattle.ratio.specs.Value.{fraction_of}
-use Rattle.calculus.specs.Polynomial.{Polynomial, plus, times, constant, monomial, polynomials, plus_assoc, plus-nil, times-plus}
+use Rattle.calculus.specs.Polynomial.{Polynomial, plus, times, constant, monomial, polynomials, plus_assoc, times-plus}
 use Rattle.polyalg.specs.Exponents.{key}
 use Rattle.polyalg.specs.Terms.{term_value, value_of, Rising, keys_and, IsTerm, AreTerms, IsPoly, kept}
 use Rattle.polyalg.specs.Products.{degree_of}
 use Rattle.polyalg.specs.Range.{product_passes}
 use Rattle.polyalg.specs.declared.term.Term.{Term}
+use Rattle.polyalg.proofs.MappedLaws.{Mapped, mapped_begin, mapped_value, mapped_passes, mapped_degree}
 use Rattle.polyalg.proofs.MonomialLaws.{monomial-scaled}
 use Rattle.polyalg.proofs.SortedLaws.{value_of-kept, terms_kept, degree_kept, rising_kept, rising_front}
 use Rattle.polyalg.proofs.StepLaws.{product_is, some_is_not_none, none_is_none}
@@ -31,19 +32,12 @@ two_tails out mid next ts us i j e f = f ∙ ap₂ ◌++◌ (e ∙ ap (λ l. out
 pub first_term : (left rest : List Term) (t : Term) → left ≡ t ∷ rest → AreTerms left → IsTerm t
 first_term left rest t e a = let r : AreTerms (t ∷ rest) = subst AreTerms e a in r.0
 
--- how far a multiple has come: `out` is there, `left` is left
-pub record Scaled (c : Fraction) (out left all : List Term) : Type 0 where
-  pub value : plus (value_of out) (times (constant c) (value_of left)) ≡ times (constant c) (value_of all)
-  pub passes : product_passes c left ≡ product_passes c all
-  pub rising : Rising (keys_and 0 out ++ keys_and 0 left)
-  pub there : AreTerms out
-  pub remain : AreTerms left
-  pub degree : max (degree_of out) (degree_of left) ≤ degree_of all
+-- how far a multiple has come
+abbrev pub Scaled : Fraction → List Term → List Term → List Term → Type 0
+Scaled c = Mapped (times (constant c)) (product_passes c) 0
 
 pub scaled_begin : (c : Fraction) (out all : List Term) → out ≡ [] → IsPoly all → Scaled c out all all
-scaled_begin c out all e p =
-    subst (λ us. Scaled c us all all) (sym e)
-    (record { value = L.zero-add polynomials (times (constant c) (value_of all)); passes = refl; rising = p.sorted; there = tt; remain = p.terms; degree = omega arith })
+scaled_begin c = mapped_begin (times (constant c)) (product_passes c) 0
 
 collect : (a b c d e : Polynomial) → plus a (plus b c) ≡ e → d ≡ plus a b → plus d c ≡ e
 collect a b c d e h k = ap (λ x. plus x c) k ∙ plus_assoc a b c ∙ h
@@ -76,14 +70,13 @@ scaled_fails c out left all rest t is h s =
     sym s.passes ∙ ap (product_passes c) is ∙ ap (λ b. b || product_passes c rest) (none_is_none (product (fraction_of t.c) c) h)
 
 pub scaled_value : (c : Fraction) (out left all : List Term) → left ≡ [] → Scaled c out left all → value_of out ≡ times (constant c) (value_of all)
-scaled_value c out left all e s =
-    sym (plus-nil (value_of out)) ∙ ap (plus (value_of out)) (sym (L.mul-zero polynomials (constant c))) ∙ ap (λ ts. plus (value_of out) (times (constant c) (value_of ts))) (sym e) ∙ s.value
+scaled_value c = mapped_value (times (constant c)) (product_passes c) 0 (L.mul-zero polynomials (constant c))
 
 pub scaled_passes : (c : Fraction) (out left all : List Term) → left ≡ [] → Scaled c out left all → product_passes c all ≡ false
-scaled_passes c out left all e s = sym s.passes ∙ ap (product_passes c) e
+scaled_passes c = mapped_passes (times (constant c)) (product_passes c) 0
 
 pub scaled_lawful : (c : Fraction) (out left all : List Term) → Scaled c out left all → IsPoly out
 scaled_lawful c out left all s = record { sorted = rising_front (keys_and 0 out) (keys_and 0 left) s.rising; terms = s.there }
 
 pub scaled_degree : (c : Fraction) (out left all : List Term) → Scaled c out left all → degree_of out ≤ degree_of all
-scaled_degree c out left all s = omega (arith, s.degree)
+scaled_degree c = mapped_degree (times (constant c)) (product_passes c) 0

@@ -6,3 +6,4 @@ pub mod ReferenceIntegral
 pub mod Products
 pub mod Row
 pub mod Bounds
+pub mod Prelude

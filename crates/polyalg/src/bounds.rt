@@ -9,11 +9,8 @@ ghost use Rattle.algebra.specs.Fraction.{Fraction};
 ghost use Rattle.algebra.specs.Over.{Over};
 ghost use Rattle.calculus.specs.Polynomial.{nil, constant, plus, times, derivative};
 ghost use Rattle.calculus.specs.LocalFunction.{factorial};
-ghost use Rattle.polyalg.specs.Terms.{value_of, IsPoly};
-ghost use Rattle.polyalg.specs.Range.{product_passes, sum_passes, derivative_passes};
-ghost use Rattle.polyalg.specs.Products.{degree_of, product_steps};
+ghost use Rattle.polyalg.specs.Prelude.{value_of, IsPoly, product_passes, sum_passes, derivative_passes, degree_of, product_steps, CoefficientsOver};
 ghost use Rattle.polyalg.specs.ReferenceIntegral.{integral_steps};
-ghost use Rattle.polyalg.specs.Bounds.{CoefficientsOver};
 ghost use Rattle.polyalg.specs.declared.term.Term.{Term};
 
 /// A sum: the bounds add up, and no step of `Poly::add` passes where their sum is below 2^127.

@@ -2,16 +2,14 @@
 
 ghost use Rattle.std.specs.Prelude.{◌≡◌, ◌+◌, ◌<◌, ◌≤◌, ◌^◌, length, IfSome};
 ghost use Rattle.ratio.specs.Value.{fraction_of, valued};
-ghost use Rattle.calculus.specs.LocalFunction.{factorial};
 ghost use Rattle.calculus.specs.Polynomial.{constant};
 ghost use Rattle.calculus.specs.Simplex.{reference};
 ghost use Rattle.calculus.specs.Integral.{shadow_integral};
-ghost use Rattle.polyalg.specs.Exponents.{total};
-ghost use Rattle.polyalg.specs.Terms.{value_of};
-ghost use Rattle.polyalg.specs.ReferenceIntegral.{raised, factor_of, integral_steps, VariablesBelow, by_factorials};
+ghost use Rattle.polyalg.specs.Prelude.{total, value_of, VariablesBelow};
+ghost use Rattle.polyalg.specs.ReferenceIntegral.{raised, factor_of, integral_steps, by_factorials};
 
 use crate::poly::Poly;
-use crate::terms::quotient;
+use crate::terms::{factorial, quotient};
 use ratio::Ratio;
 
 /// The integral over the reference cell of dimension d: the sum over the terms of
@@ -48,18 +46,6 @@ fn factor(e: [u32; 3], d: u8) -> Option<Ratio>
     let first = raised(start, below, x)?;
     let second = raised(first, below + x, y)?;
     raised(second, below + x + y, z)
-}
-
-fn factorial(d: u8) -> u32
-    requires { d ≤ 3 }
-    ensures value { result ≡ factorial d }
-    ensures positive { 0 < result }
-{
-    match d {
-        0 | 1 => 1,
-        2 => 2,
-        _ => 6,
-    }
 }
 
 /// The fraction times `i/(below + i)`, for i from 1 to n.

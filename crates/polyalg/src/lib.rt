@@ -21,7 +21,7 @@ pub use fault::PolyFault;
 pub use integral::ref_integral;
 pub use poly::Poly;
 pub use term::Term;
-pub use terms::{quotient, whole};
+pub use terms::{factorial, quotient, whole};
 
 #[cfg(test)]
 mod tests;

@@ -3,11 +3,7 @@
 ghost use Rattle.std.specs.Prelude.{◌≡◌, ℕ, ◌+◌, ◌<◌, ◌≤◌, max, is_none, IfOk};
 ghost use Rattle.ratio.specs.Value.{fraction_of};
 ghost use Rattle.calculus.specs.Polynomial.{nil, monomial, constant as constant_polynomial, coordinate, plus, times, derivative};
-ghost use Rattle.polyalg.specs.Terms.{value_of, IsPoly};
-ghost use Rattle.polyalg.specs.ReferenceIntegral.{VariablesBelow};
-ghost use Rattle.polyalg.specs.Products.{degree_of, product_steps};
-ghost use Rattle.polyalg.specs.Range.{product_passes, derivative_passes, sum_passes, RangeWhere};
-ghost use Rattle.polyalg.specs.Exponents.{exponent, total};
+ghost use Rattle.polyalg.specs.Prelude.{value_of, IsPoly, VariablesBelow, degree_of, product_steps, product_passes, derivative_passes, sum_passes, RangeWhere, exponent, total};
 
 use crate::fault::PolyFault;
 use crate::product::multiplied;

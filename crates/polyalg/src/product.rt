@@ -2,11 +2,7 @@
 
 ghost use Rattle.std.specs.Prelude.{◌≡◌, ℕ, ◌+◌, ◌≤◌, IfOk, is_none};
 ghost use Rattle.calculus.specs.Polynomial.{nil, times};
-ghost use Rattle.polyalg.specs.Exponents.{total};
-ghost use Rattle.polyalg.specs.Terms.{value_of, IsTerm, IsPoly};
-ghost use Rattle.polyalg.specs.Range.{row_passes, RangeWhere};
-ghost use Rattle.polyalg.specs.ReferenceIntegral.{VariablesBelow};
-ghost use Rattle.polyalg.specs.Products.{degree_of, product_steps};
+ghost use Rattle.polyalg.specs.Prelude.{total, value_of, IsTerm, IsPoly, row_passes, RangeWhere, VariablesBelow, degree_of, product_steps};
 ghost use Rattle.polyalg.specs.Row.{IsRow};
 
 use crate::fault::PolyFault;

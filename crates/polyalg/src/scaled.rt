@@ -3,10 +3,7 @@
 ghost use Rattle.std.specs.Prelude.{◌≡◌, ℕ, ◌≤◌, IfOk};
 ghost use Rattle.ratio.specs.Value.{fraction_of};
 ghost use Rattle.calculus.specs.Polynomial.{constant, times, derivative};
-ghost use Rattle.polyalg.specs.Terms.{value_of, IsPoly};
-ghost use Rattle.polyalg.specs.ReferenceIntegral.{VariablesBelow};
-ghost use Rattle.polyalg.specs.Products.{degree_of};
-ghost use Rattle.polyalg.specs.Range.{product_passes, derivative_passes, RangeWhere};
+ghost use Rattle.polyalg.specs.Prelude.{value_of, IsPoly, VariablesBelow, degree_of, product_passes, derivative_passes, RangeWhere};
 
 use crate::fault::PolyFault;
 use crate::term::Term;

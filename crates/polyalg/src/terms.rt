@@ -1,12 +1,11 @@
 //! Steps on terms and small numbers.
 
-ghost use Rattle.std.specs.Prelude.{◌≡◌, ◌<◌, OnOk};
+ghost use Rattle.std.specs.Prelude.{◌≡◌, ◌<◌, ◌≤◌, OnOk};
 ghost use Rattle.ratio.specs.Value.{fraction_of};
 ghost use Rattle.algebra.specs.Ring.{natural};
 ghost use Rattle.algebra.specs.Fraction.{fractions};
-ghost use Rattle.polyalg.specs.Exponents.{key};
-ghost use Rattle.polyalg.specs.Small.{over};
-ghost use Rattle.polyalg.specs.Terms.{kept};
+ghost use Rattle.calculus.specs.LocalFunction.{factorial};
+ghost use Rattle.polyalg.specs.Prelude.{key, over, kept};
 
 use crate::term::Term;
 use ratio::Ratio;
@@ -45,4 +44,17 @@ pub fn quotient(n: u32, d: u32) -> Ratio
     ensures { fraction_of result ≡ over n d }
 {
     Ratio::new(n as i128, d as i128).unwrap()
+}
+
+/// `n!`, for n up to 3.
+pub fn factorial(n: u8) -> u32
+    requires { n ≤ 3 }
+    ensures value { result ≡ factorial n }
+    ensures positive { 0 < result }
+{
+    match n {
+        0 | 1 => 1,
+        2 => 2,
+        _ => 6,
+    }
 }

@@ -3,7 +3,7 @@ use Rattle.std.proofs.Common.{◌≡◌, ℕ, zero, suc, ◌<◌, false, refl, s
 use Rattle.algebra.specs.RingLaws as L
 use Rattle.algebra.specs.Solver.{at, ◌⊗◌, unity}
 use Rattle.algebra.specs.Sound as Solve
-use Rattle.algebra.specs.Fraction.{Fraction, fractions, one_fraction, add, mul, absolute, is_zero_fraction, is_below_zero}
+use Rattle.algebra.specs.Fraction.{Fraction, fractions, one_fraction, mul, absolute, is_zero_fraction, is_below_zero}
 use Rattle.calculus.specs.Integral.{integral_value}
 use Rattle.calculus.specs.LocalFunction.{local_function}
 use Rattle.calculus.specs.Mass.{mass_factor, mass_density, end_node}

@@ -8,7 +8,6 @@ use Rattle.algebra.specs.Fraction.{Fraction, add, negative, below_nought}
 use Rattle.algebra.specs.Gcd.{gcd}
 use Rattle.algebra.specs.GcdLaws.{part_left, part_right, positive_part}
 use Rattle.algebra.specs.LowestTerms.{top, bottom, top_of, bottom_of}
-use Rattle.algebra.specs.Solver.{at}
 use Rattle.algebra.proofs.Signs.{size_of_signed}
 use Rattle.algebra.proofs.LowestLaws.{bottom_positive}
 use Rattle.calculus.specs.Simplex.{Simplex, IsCell, dimension, along_axis}

@@ -1,5 +1,5 @@
 -- The shares of a sum of monomials as a kernel adds them up
-use Rattle.std.proofs.Common.{◌≡◌, ℕ, zero, suc, ◌+◌, ◌<◌, Bool, true, false, List, [], ◌∷◌, length, map, Option, None, Some, slice_get, slice_index_or, if◌then◌else◌, refl, sym, ◌∙◌, ap, subst, arith}
+use Rattle.std.proofs.Common.{◌≡◌, ℕ, zero, suc, ◌+◌, ◌<◌, Bool, true, false, List, [], ◌∷◌, map, Option, None, Some, slice_get, slice_index_or, if◌then◌else◌, sym, ◌∙◌, ap, subst, arith}
 use Rattle.std.specs.List.{AllByRecursion}
 use Rattle.algebra.specs.Fraction.{Fraction, zero_fraction}
 use Rattle.algebra.specs.Over.{Over}
@@ -26,19 +26,12 @@ use Rattle.room.specs.Numbered.{AllOver}
 use Rattle.room.specs.Room.{coordinates, values_with, all_values}
 use Rattle.room.specs.Rows.{part_value, entry_part}
 use Rattle.room.proofs.Lists.{all_below, all_left, all_right, all_of_vertices}
+use Rattle.room.proofs.VolumeLaws.{vertices}
 
 pub entry_shares : (l : Layout) (v : Simplex) (w : List Fraction) (ms : List Monomial) (a b : ℕ) → share_of l v w ms a b ≡ total (map (part_value l.d v) (map (entry_part l v w a b) ms))
 entry_shares l v w ms a b = ap total (sym (map_map (part_value l.d v) (entry_part l v w a b) ms))
 
 -- ---- what bounds the values that a kernel multiplies with
-corners : (v : Simplex) → IsCell v → length v ≡ suc (dimension v)
-corners [] c = absurd c
-corners (a ∷ []) c = absurd c
-corners (a ∷ b ∷ []) c = refl
-corners (a ∷ b ∷ e ∷ []) c = refl
-corners (a ∷ b ∷ e ∷ f ∷ []) c = refl
-corners (a ∷ b ∷ e ∷ f ∷ g ∷ vs) c = absurd c
-
 module _ (n m : ℕ) (some : 0 < n) where
   item_over : (xs : List Fraction) → AllOver n m xs → (k : ℕ) → Over n m (slice_index_or xs k zero_fraction)
   item_over [] a zero = over_zero n m some
@@ -58,7 +51,7 @@ module _ (n m : ℕ) (some : 0 < n) where
       → AllOver n m (map (λ j. along_axis i (vertex_at v j)) (numbers_below (suc d)))
   along_corners d i k v c e a =
       all_below (Over n m) (λ j. along_axis i (vertex_at v j)) (suc d)
-      (λ j h. all_of_vertices (Over n m) d v (λ p i. along_axis i p) j i (subst (λ x. j < x) (sym (corners v c ∙ ap suc e)) h) k a)
+      (λ j h. all_of_vertices (Over n m) d v (λ p i. along_axis i p) j i (subst (λ x. j < x) (sym (vertices v c ∙ ap suc e)) h) k a)
 
   no_part : (v : Simplex) (k i : ℕ) → AllOver n m (vertex_values v (slice_get [] i) k)
   no_part v k zero = tt

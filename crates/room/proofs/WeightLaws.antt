@@ -1,11 +1,12 @@
 -- What an admitted weight says of its bounds, and of the items of an entry
-use Rattle.std.proofs.Common.{◌≡◌, ℕ, zero, suc, ◌+◌, ◌*◌, ◌^◌, ◌<◌, ◌≤◌, subst, arith, List, [], ◌∷◌, length, take, drop}
+use Rattle.std.proofs.Common.{◌≡◌, ℕ, zero, suc, ◌+◌, ◌*◌, ◌^◌, ◌≤◌, subst, arith, List, [], ◌∷◌, length, take, drop}
 use Rattle.std.specs.List.{AllByRecursion}
 use Prim.Native.Nat.{◌∣◌}
 use native.Mathlib.Nat as N
 use Rattle.algebra.specs.Fraction.{Fraction}
 use Rattle.algebra.specs.LowestTerms.{bottom}
 use Rattle.calculus.specs.LocalFunction.{factorial}
+use Rattle.calculus.proofs.Nodes.{factorial_positive}
 use Rattle.algebra.specs.Over.{Over}
 use Rattle.weigh.specs.Admitted.{IsBound, IsAdmitted}
 use Rattle.weigh.specs.Refusals.{lcd, size}
@@ -14,10 +15,6 @@ use Rattle.weigh.specs.Numerators.{size_over}
 use Rattle.room.specs.Numbered.{AllOver}
 use Rattle.room.specs.Rows.{EntryPart, sizes, part_sizes, item_unit, AreCounted, none, more}
 use Rattle.weigh.proofs.NumeratorLaws.{over_divides, over_size}
-
-factorial_positive : (n : ℕ) → 0 < factorial n
-factorial_positive zero = N.zero-lt-suc 0
-factorial_positive (suc n) = N.mul-pos (N.zero-lt-suc n) (factorial_positive n)
 
 pub admitted_bound : (d : ℕ) (w : Weight) → IsAdmitted d w → IsBound d w
 admitted_bound d w h = record {

@@ -1,5 +1,5 @@
 -- The bytes of a token, one after the other
-use Rattle.std.proofs.Common.{◌≡◌, refl, sym, ◌∙◌, ap, subst, ℕ, zero, suc, ◌+◌, ◌-◌, ◌≤◌, ◌<◌, Bool, true, false, ◌==◌, ◌||◌, ◌&&◌, slice_index, if◌then◌else◌, List, [], ◌∷◌, length, drop, get_or, add-one, arith, length-drop, min}
+use Rattle.std.proofs.Common.{◌≡◌, refl, sym, ◌∙◌, ap, subst, ℕ, zero, suc, ◌+◌, ◌≤◌, ◌<◌, Bool, true, false, ◌==◌, ◌||◌, ◌&&◌, slice_index, if◌then◌else◌, List, [], ◌∷◌, length, drop, get_or, add-one, arith, length-drop}
 use Rattle.std.proofs.Math.Seq.{drop-cons}
 use Rattle.slices.specs.CTable.{digits_length, is_digit}
 use Rattle.slices.specs.FormTable.{fraction_length, power_length, exponent_length, with_digits, mantissa_length, form_number_length, begins_number}

@@ -1,10 +1,9 @@
 -- A token of a form file has a byte, and no more than there are.
-use Rattle.std.proofs.Common.{◌≡◌, refl, sym, ap, subst, ℕ, zero, suc, ◌+◌, ◌-◌, ◌≤◌, ◌<◌, Bool, true, false, ◌==◌, ◌&&◌, ◌||◌, if◌then◌else◌, min, List, [], ◌∷◌, length, drop, slice_index, Option, Some, None, arith, length-drop}
+use Rattle.std.proofs.Common.{◌≡◌, refl, ℕ, zero, suc, ◌+◌, ◌≤◌, ◌<◌, Bool, true, false, ◌==◌, ◌&&◌, ◌||◌, if◌then◌else◌, List, [], ◌∷◌, length, drop, slice_index, Option, Some, None, arith, length-drop}
 use Rattle.std.proofs.lemmas.Bool.{eqb-true}
 use Rattle.slices.specs.CTable.{span, is_letter, is_digit, is_inside_word, word_length, digits_length, sign_of_length}
 use Rattle.slices.specs.FormTable.{is_form_sign, form_sign_length, fraction_length, with_digits, power_length, exponent_length, mantissa_length, form_number_length, begins_number, one_longer, string_length, string_of_length, form_token}
 use Rattle.slices.specs.declared.toks.TokKind.{TokKind}
-use Rattle.slices.specs.declared.toks.TokKind.TheVariants.{Word, Number, Text}
 use Rattle.slices.proofs.Form.{number_some}
 
 either : (b : Bool) (x y n : ℕ) → x ≤ n → y ≤ n → (if b then x else y) ≤ n

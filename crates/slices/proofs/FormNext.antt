@@ -1,12 +1,9 @@
 -- What comes next in a form file, once the gap is gone over
-use Rattle.std.proofs.Common.{◌≡◌, refl, sym, ◌∙◌, ap, ℕ, zero, suc, ◌+◌, ◌-◌, ◌≤◌, ◌<◌, List, [], ◌∷◌, length, take, drop, get_or, Option, Some, None, true, false, Bool, ◌==◌, if◌then◌else◌, subst, arith}
-use Rattle.std.proofs.lemmas.List.{take_all, length-drop, length-take, drop-drop}
-use Rattle.slices.specs.FormGap.{Within, blanks, comment, backslash, returned, after_gap, join_length, returned_length, Spot, spot, is_blank}
+use Rattle.std.proofs.Common.{◌≡◌, refl, sym, ◌∙◌, ap, ℕ, zero, suc, ◌+◌, ◌-◌, ◌≤◌, ◌<◌, List, [], ◌∷◌, length, take, drop, get_or, Some, None, true, false, Bool, ◌==◌, if◌then◌else◌, arith}
+use Rattle.std.proofs.lemmas.List.{take_all, length-drop, drop-drop}
+use Rattle.slices.specs.FormGap.{blanks, comment, backslash, returned, after_gap, join_length, returned_length, Spot, spot, is_blank}
 use Rattle.slices.specs.FormTable.{form_token}
-use Rattle.slices.specs.FormTokens.{FormReader, FormNext, finished, no_token, token, form_next, gap_end, next_at, next_by, quiet_at, depth_after, token_at, Scan, no_more, lost as no_more_at, one_more}
-use Rattle.slices.specs.Tokens.{Token, token_of}
-use Rattle.slices.specs.declared.toks.Tok.{Tok}
-use Rattle.slices.specs.declared.toks.LexAt.{LexAt}
+use Rattle.slices.specs.FormTokens.{FormReader, finished, no_token, token, form_next, gap_end, next_at, next_by, quiet_at, depth_after, token_at}
 use Rattle.slices.specs.declared.toks.TokKind.{TokKind}
 use Rattle.slices.specs.declared.toks.TokKind.TheVariants.{End}
 use Rattle.slices.proofs.Form.{head_at, none_at, eqb_is, eqb_not}
@@ -110,49 +107,3 @@ found xs a l d g b m n k e h f i =
     next_from xs a l d g b m e ∙ ap (next_at (reader xs a l d g) (spot b m)) (head_at xs b h) ∙ at_token (reader xs a l d g) (spot b m) (get_or xs b 0) (drop (b + 1) xs) f
     ∙ ap (next_by (reader xs a l d g) (spot b m) (get_or xs b 0) (get_or xs b 0 ∷ drop (b + 1) xs)) (ap form_token (sym (tail xs b ∙ head_at xs b h)) ∙ i)
     ∙ ap (λ bs. token (record { text = take n bs; from = b; line = m; kind = k }) (reader xs (b + n) m (depth_after (get_or xs b 0) d) true)) (sym (tail xs b ∙ head_at xs b h))
-
--- a token is no longer than the file, which stays the same
-abbrev pub Keeps : FormReader → FormNext → Type 0
-Keeps r finished = Unit {0}
-Keeps r (no_token from line) = Unit {0}
-Keeps r (token t q) = (length t.text ≤ length r.source) × (q.source ≡ r.source)
-
-keeps_if : (b : Bool) (r : FormReader) (x y : FormNext) → Keeps r x → Keeps r y → Keeps r (if b then x else y)
-keeps_if true r x y h i = h
-keeps_if false r x y h i = i
-
-taken : (n : ℕ) (xs : List ℕ) (m : ℕ) → length xs ≤ m → length (take n xs) ≤ m
-taken n xs m h = omega (arith, h, length-take n xs)
-
-keeps_by : (o : Option (ℕ × TokKind)) (r : FormReader) (p : Spot) (b : ℕ) (bytes : List ℕ) → length bytes ≤ length r.source → Keeps r (next_by r p b bytes o)
-keeps_by None r p b bytes h = tt
-keeps_by (Some t) r p b bytes h = (taken t.0 bytes (length r.source) h, refl)
-
-keeps_at : (r : FormReader) (p : Spot) (bytes : List ℕ) → length bytes ≤ length r.source → Keeps r (next_at r p bytes)
-keeps_at r p [] h = keeps_if r.begun r _ _ (taken 0 [] (length r.source) h, refl) tt
-keeps_at r p (b ∷ bs) h = keeps_if (b == 10) r _ _ (taken 1 (b ∷ bs) (length r.source) h, refl) (keeps_by (form_token (b ∷ bs)) r p b (b ∷ bs) h)
-
-next_keeps : (r : FormReader) → Keeps r (form_next r)
-unfolding form_next
-next_keeps r = keeps_at r (gap_end r) (drop (gap_end r).at r.source) (omega (arith, length-drop (gap_end r).at r.source))
-
-pub token_kept : (r : FormReader) (t : Token) (q : FormReader) → form_next r ≡ token t q → (length t.text ≤ length r.source) × (q.source ≡ r.source)
-token_kept r t q e = subst (Keeps r) e (next_keeps r)
-
-no_tokens : (at : ℕ) (t : Tok) (after : List Tok) → drop at [] ≡ t ∷ after → ⊥
-no_tokens zero t after d = cc
-no_tokens (suc at) t after d = cc
-
-first_same : (u t : Tok) (us after : List Tok) → u ∷ us ≡ t ∷ after → u ≡ t
-first_same u t us after d = cc
-
--- the texts of all tokens are no longer than the file
-pub texts_kept : (n : ℕ) (r : FormReader) (ts : List Tok) (e : Option LexAt) → length r.source ≤ n → Scan r ts e → (at : ℕ) (t : Tok) (after : List Tok) → drop at ts ≡ t ∷ after → length t.text.now ≤ n
-texts_kept n r ts e h (no_more x) at t after d = absurd (no_tokens at t after d)
-texts_kept n r ts e h (no_more_at x) at t after d = absurd (no_tokens at t after d)
-texts_kept n r ts e h (one_more {t = u} {q = q} {ts = us} x s) zero t after d =
-    let k = token_kept r (token_of u) q x in
-    subst (λ v. length v.text.now ≤ n) (first_same u t us after d) (omega (arith, k.0, h))
-texts_kept n r ts e h (one_more {t = u} {q = q} {ts = us} x s) (suc at) t after d =
-    let k = token_kept r (token_of u) q x in
-    texts_kept n q us e (subst (λ l. length l ≤ n) (sym k.1) h) s at t after d

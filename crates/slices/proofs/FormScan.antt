@@ -1,5 +1,5 @@
 -- Two scans of a form file agree, and each token is the cut of the file at its place.
-use Rattle.std.proofs.Common.{◌≡◌, refl, sym, ◌∙◌, ap, subst, ℕ, zero, suc, ◌+◌, ◌-◌, ◌≤◌, ◌<◌, Bool, true, false, ◌==◌, ◌&&◌, if◌then◌else◌, List, [], ◌∷◌, map, length, take, drop, Option, Some, None, All, arith, length-drop}
+use Rattle.std.proofs.Common.{◌≡◌, refl, sym, ◌∙◌, ap, subst, ℕ, zero, suc, ◌+◌, ◌-◌, ◌≤◌, Bool, true, false, ◌==◌, ◌&&◌, if◌then◌else◌, List, [], ◌∷◌, map, length, take, drop, Option, Some, None, All, arith, length-drop}
 use Rattle.std.proofs.lemmas.List.{length-take}
 use Rattle.slices.specs.FormGap.{Within, blanks, comment, backslash, returned, after_gap, Spot, spot, is_blank}
 use Rattle.slices.specs.FormTable.{form_token}

@@ -20,7 +20,8 @@ pub data Within : Type 0 where
   backslash : Within
   returned : Within
 
--- Where the gap at this place ends: behind blanks, comments, joined lines, and line feeds where they end no statement (`quiet`).
+-- Where the gap at this place ends: behind blanks, comments, joined lines, and line feeds where they end no statement
+-- (`quiet`).
 -- A backslash joins two lines directly before a line feed, or before a carriage return and a line feed.
 abbrev pub after_gap : Within → Bool → List ℕ → ℕ → ℕ → Spot
 after_gap _ quiet [] at line = spot at line

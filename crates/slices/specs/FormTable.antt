@@ -6,7 +6,8 @@ use Rattle.slices.specs.declared.toks.TokKind.TheVariants.{Word, Number, Text}
 
 -- + - * / = ( ) [ ] , . :
 abbrev pub is_form_sign : ℕ → Bool
-is_form_sign b = b == 43 || b == 45 || b == 42 || b == 47 || b == 61 || b == 40 || b == 41 || b == 91 || b == 93 || b == 44 || b == 46 || b == 58
+is_form_sign b = b == 43 || b == 45 || b == 42 || b == 47 || b == 61 || b == 40 || b == 41 || b == 91 || b == 93
+    || b == 44 || b == 46 || b == 58
 
 -- the longest sign at the front, or 0: `...`, then `**`, `+=` and `-=`, then one byte
 unfoldable pub form_sign_length : List ℕ → ℕ
@@ -27,10 +28,12 @@ abbrev pub with_digits : ℕ → ℕ → ℕ
 with_digits n zero = 0
 with_digits n (suc d) = n + min (suc d) 3
 
--- behind the e of an exponent: a sign or none, and digits; how many bytes the exponent has with its e, or 0 where it isn't one
+-- behind the e of an exponent: a sign or none, and digits; how many bytes the exponent has with its e, or 0 where it
+-- isn't one
 unfoldable pub power_length : List ℕ → ℕ
 power_length [] = 0
-power_length (b ∷ bs) = if b == 43 || b == 45 then with_digits 2 (digits_length bs) else with_digits 1 (digits_length (b ∷ bs))
+power_length (b ∷ bs) = if b == 43
+    || b == 45 then with_digits 2 (digits_length bs) else with_digits 1 (digits_length (b ∷ bs))
 
 unfoldable pub exponent_length : List ℕ → ℕ
 exponent_length [] = 0
@@ -52,10 +55,12 @@ abbrev pub one_longer : ℕ → ℕ
 one_longer zero = 0
 one_longer (suc n) = suc (suc n)
 
--- behind a quote: how many bytes there are up to the next such quote and with it, or 0 where none stands on this line or a backslash is before it
+-- behind a quote: how many bytes there are up to the next such quote and with it, or 0 where none stands on this line
+-- or a backslash is before it
 abbrev pub string_length : ℕ → List ℕ → ℕ
 string_length quote [] = 0
-string_length quote (b ∷ bs) = if b == quote then 1 else if b == 10 || b == 92 then 0 else one_longer (string_length quote bs)
+string_length quote (b ∷ bs) = if b == quote then 1 else if b == 10
+    || b == 92 then 0 else one_longer (string_length quote bs)
 
 abbrev pub string_of_length : ℕ → Option (ℕ × TokKind)
 string_of_length zero = None

@@ -1,5 +1,5 @@
 -- The tokens of a form file
-use Rattle.std.specs.Prelude.{◌≡◌, ◌≤◌, ℕ, zero, suc, ◌+◌, ◌*◌, ◌-◌, Bool, true, false, not, length, ◌||◌, ◌==◌, nat_lt, if◌then◌else◌, List, [], ◌∷◌, take, drop, Option, Some, None, Result, Ok, Err}
+use Rattle.std.specs.Prelude.{◌≡◌, ◌≤◌, ℕ, ◌+◌, ◌*◌, ◌-◌, Bool, true, false, not, length, ◌||◌, ◌==◌, nat_lt, if◌then◌else◌, List, [], ◌∷◌, take, drop, Option, Some, None, Result, Ok, Err}
 use Rattle.slices.specs.FormGap.{Spot, spot, blanks, after_gap}
 use Rattle.slices.specs.FormTable.{form_token}
 use Rattle.slices.specs.Tokens.{Token, token_of}
@@ -8,7 +8,8 @@ use Rattle.slices.specs.declared.toks.TokKind.TheVariants.{End}
 use Rattle.slices.specs.declared.toks.Tok.{Tok}
 use Rattle.slices.specs.declared.toks.LexAt.{LexAt}
 
--- a form file, and how far it is read: the place and the line of the next byte, how many brackets are open, and whether the statement has a token
+-- a form file, and how far it is read: the place and the line of the next byte, how many brackets are open, and
+-- whether the statement has a token
 pub record FormReader : Type 0 where
   pub source : List ℕ
   pub at : ℕ
@@ -69,7 +70,8 @@ unread r = 2 * (length r.source - r.at) + (if r.begun then 1 else 0)
 pub data Scan : FormReader → List Tok → Option LexAt → Type 0 where
   no_more : {r : FormReader} → form_next r ≡ finished → Scan r [] None
   lost : {r : FormReader} {e : LexAt} → form_next r ≡ no_token e.from e.line → Scan r [] (Some e)
-  one_more : {r : FormReader} {t : Tok} {q : FormReader} {ts : List Tok} {e : Option LexAt} → form_next r ≡ token (token_of t) q → Scan q ts e → Scan r (t ∷ ts) e
+  one_more : {r : FormReader} {t : Tok} {q : FormReader} {ts : List Tok} {e : Option LexAt}
+      → form_next r ≡ token (token_of t) q → Scan q ts e → Scan r (t ∷ ts) e
 
 -- so many bytes are what stands at a place of a text
 abbrev pub IsCutAt : List ℕ → ℕ → List ℕ → Type 0

@@ -8,7 +8,11 @@ use crate::form_table::form_token;
 use crate::toks::{LexAt, Tok, TokKind};
 use std::marker::Model;
 
-/// The tokens of a form file that are still to come. Contracts see it as the file, how far it is read, how many brackets are open, and
+/// The most bytes of a form file.
+pub const FORM_LIMIT: u32 = 262_144;
+
+/// The tokens of a form file that are still to come. Contracts see it as the file, how far it is read, how many
+/// brackets are open, and
 /// whether the statement has a token.
 ///
 /// A line feed ends a statement that has a token, unless a bracket is open or a backslash stands directly before it.
@@ -29,7 +33,8 @@ impl<'a> Model for FormToks<'a> {
 
     ghost view = { λ t. record { source = t.text.now; at = t.at; line = t.line; depth = t.depth; begun = t.begun } };
 
-    ghost invariant = { λ t. (length t.text.now < 2 ^ 32) × (t.at ≤ length t.text.now) × (t.line ≤ t.at + 1) × (t.begun ≡ true → t.line ≤ t.at) × (t.depth ≤ t.at) };
+    ghost invariant = { λ t. (length t.text.now < 2 ^ 32) × (t.at ≤ length t.text.now) × (t.line ≤ t.at + 1)
+        × (t.begun ≡ true → t.line ≤ t.at) × (t.depth ≤ t.at) };
 }
 
 #[tactic(auto, unfolding(crate::specs::FormGap::is_blank))]
@@ -67,7 +72,9 @@ fn join_length(text: &[u8], at: usize) -> usize
 fn past_comment(text: &[u8], from: usize) -> usize
     requires { from ≤ length text.now }
     ensures within { (from ≤ result) × (result ≤ length text.now) }
-    ensures value { (quiet : Bool) (line : ℕ) → after_gap comment quiet (drop from text.now) from line ≡ after_gap blanks quiet (drop result text.now) result line }
+    ensures value { (quiet : Bool) (line : ℕ)
+        → after_gap comment quiet (drop from text.now) from line
+        ≡ after_gap blanks quiet (drop result text.now) result line }
 {
     let mut at = from;
     while at < text.len() {
@@ -154,14 +161,17 @@ impl<'a> FormToks<'a> {
         }
     }
 
-    /// The next token, the longest at its place, or the end of a logical line; None exactly at the end. Where no token starts, the answer
+    /// The next token, the longest at its place, or the end of a logical line; None exactly at the end. Where no
+    /// token starts, the answer
     /// is that place, now and at every further call.
     pub fn next(&mut self) -> Option<Result<Tok<'a>, LexAt>>
         ensures step { IsFormStep self.old result self.new }
         ensures source { self.new.source ≡ self.old.source }
-        ensures slice { IfSome result (λ r. IfOk r (λ t. t.text.now ≡ take (length t.text.now) (drop t.from self.old.source))) }
+        ensures slice { IfSome result (λ r. IfOk r (λ t. t.text.now
+            ≡ take (length t.text.now) (drop t.from self.old.source))) }
         ensures moves { IfSome result (λ r. IfOk r (λ t. unread self.new < unread self.old)) }
-        ensures rises { IfSome result (λ r. IfOk r (λ t. (self.old.at ≤ t.from) × (self.new.at ≡ t.from + length t.text.now))) }
+        ensures rises { IfSome result (λ r. IfOk r (λ t. (self.old.at ≤ t.from)
+            × (self.new.at ≡ t.from + length t.text.now))) }
     {
         let quiet = is_quiet(self.begun, self.depth);
         let (at, line) = past_gap(self.text, self.at, self.line, quiet);

@@ -11,7 +11,9 @@ pub fn cuts()
     ensures { (text : List ℕ) (ts : List Tok) (e : Option LexAt) → Scan (form_begins text) ts e → All (IsCut text) ts }
 {}
 
-/// Two scans of a form file give tokens of the same texts, places, lines and kinds, wherever the texts lie in memory, and the same place where no token starts.
+/// Two scans of a form file give tokens of the same texts, places, lines and kinds, wherever the texts lie in memory,
+/// and the same place where no token starts.
 pub fn one_scan()
-    ensures { (text : List ℕ) (ts us : List Tok) (d e : Option LexAt) → Scan (form_begins text) ts d → Scan (form_begins text) us e → (map token_of ts ≡ map token_of us) × (d ≡ e) }
+    ensures { (text : List ℕ) (ts us : List Tok) (d e : Option LexAt) → Scan (form_begins text) ts d
+        → Scan (form_begins text) us e → (map token_of ts ≡ map token_of us) × (d ≡ e) }
 {}

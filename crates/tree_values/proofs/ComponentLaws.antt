@@ -43,9 +43,6 @@ sum_at-append : (xs ys : List (List ℕ)) (f : Components) → sum_at (xs ++ ys)
 sum_at-append [] ys f = sym (L.zero-add polynomials _)
 sum_at-append (x ∷ xs) ys f = ap (plus (f x)) (sum_at-append xs ys f) ∙ sym (plus_assoc _ _ _)
 
-pub sum_at-next : (xs : List (List ℕ)) (i : ℕ) (b : List ℕ) (f : Components) → i < length xs → b ≡ get_or xs i b → sum_at (take (i + 1) xs) f ≡ plus (sum_at (take i xs) f) (f b)
-sum_at-next xs i b f h e = ap (λ x. sum_at x f) (next xs i b h e) ∙ sum_at-append (take i xs) (b ∷ []) f ∙ ap (plus (sum_at (take i xs) f)) (plus-nil _)
-
 sum_at-gathered : (n : ℕ) (g : ℕ → List (List ℕ)) (f : Components) → sum_at (gathered n g) f ≡ sum_below n (λ k. sum_at (g k) f)
 sum_at-gathered zero g f = refl
 sum_at-gathered (suc n) g f = sum_at-append (gathered n g) (g n) f ∙ ap (λ p. plus p (sum_at (g n) f)) (sum_at-gathered n g f)

@@ -67,9 +67,6 @@ z_derivative c x y z r s t =
     monomial-derivative 2 c (powers x y z r s t) (powers x y (z - 1) r s t)
     (at_each (λ i. get_or (powers x y (z - 1) r s t) i 0 ≡ get_or (powers x y z r s t) i 0 - delta 2 i) (omega arith) (omega arith) refl (omega arith) (omega arith) (omega arith) (λ i. refl))
 
-pub no_term : (c : Fraction) → c ≡ zero_fraction → monomial c (powers 0 0 0 0 0 0) ≡ nil
-no_term c h = ap (λ x. monomial x (powers 0 0 0 0 0 0)) h ∙ monomial-zero _
-
 -- ---- the coefficient of power 1 of a variable
 absent_power : (n j : ℕ) (f : ℕ → ℕ) → f n ≡ 0 → f j ≡ f j - delta n j
 absent_power zero zero f h = omega arith

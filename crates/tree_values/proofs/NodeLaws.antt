@@ -10,7 +10,7 @@ use Rattle.ufl_tree.specs.declared.tree.Node.TheVariants as v
 use Rattle.ufl_tree.specs.Typed.{number, identity, function, piece, one, two, power, index, partial, tensor, list, variable, diff, shape_of, free_of}
 use Rattle.ufl_tree.specs.Reading.{typed_of, typed_list, kind_of}
 use Rattle.ufl_tree.specs.Indices.{repeated, named, direction}
-use Rattle.ufl_meaning.specs.Operators.{summed}
+use Rattle.monos.specs.Summed.{summed}
 use Rattle.ufl_tree.proofs.KindLaws.{own_kind-typed_of, reads}
 use Rattle.ufl_tree.proofs.ReadingLaws as r
 use Rattle.tree_values.specs.Value.{summed_at}

@@ -57,12 +57,3 @@ piece_vector t p n k b h = no_piece t _ _ k b h (space_of-Vector p n)
 
 pub piece_tensor : (t p : ElementTree) (m n k : ℕ) (b : List ℕ) → t ≡ v.Tensor p m n → None ≡ place_in_piece (piece_of (space_of t) k) b
 piece_tensor t p m n k b h = no_piece t _ _ k b h (space_of-Tensor p m n)
-
--- the first of the parts, and the others
-pub piece_first : (before k : ℕ) (ts us : List ElementTree) (t : ElementTree) (b : List ℕ) → ts ≡ t ∷ us → k ≡ 0 → place_after before (place (element_shape (space_of t)) b) ≡ place_in_piece (piece_from before (spaces_in ts) k) b
-piece_first before k ts us t b h e = sym (ap₂ (λ x n. place_in_piece (piece_from before (spaces_in x) n) b) h e)
-
-pub piece_later : (before behind k j : ℕ) (ts us : List ElementTree) (t : ElementTree) (b : List ℕ) → ts ≡ t ∷ us → k ≡ suc j → behind ≡ before + length (scalars (space_of t))
-    → place_in_piece (piece_from behind (spaces_in us) j) b ≡ place_in_piece (piece_from before (spaces_in ts) k) b
-piece_later before behind k j ts us t b h e is =
-    ap (λ n. place_in_piece (piece_from n (spaces_in us) j) b) is ∙ sym (ap₂ (λ x n. place_in_piece (piece_from before (spaces_in x) n) b) h e)

@@ -28,9 +28,6 @@ names_after-push v (a ∷ bs) b = names_after-push (with_name a.index a.value v)
 pub names_of-push : (bs : List Bound) (b : Bound) → names_of (bs ++ b ∷ []) ≡ with_name b.index b.value (names_of bs)
 names_of-push bs b = names_after-push (λ i. 0) bs b
 
-pub names_of-next : (bs : List Bound) (i : ℕ) (b : Bound) → i < length bs → b ≡ get_or bs i b → names_of (take (i + 1) bs) ≡ with_name b.index b.value (names_of (take i bs))
-names_of-next bs i b h e = ap names_of (next bs i b h e) ∙ names_of-push (take i bs) b
-
 pub index_values-push : (v : Names) (at : List Ix) (i : Ix) → index_values v (at ++ i ∷ []) ≡ index_values v at ++ index_value v i ∷ []
 index_values-push v [] i = refl
 index_values-push v (j ∷ at) i = ap (λ ks. index_value v j ∷ ks) (index_values-push v at i)
@@ -120,9 +117,6 @@ offset_moved gs cs before c l b label at slice own is k h e hb ho hi hk =
     ap₂ (λ t n. if t then plus own (parameter n) else own) (hi ∙ ap (λ x. (label == l) && same_list at x) hb) hk
     ∙ ap (λ p. if (label == l) && same_list at b then plus p (parameter (environment_of gs before).used) else p) ho
     ∙ ap (λ (env : Environment). env.offset label at) (under gs cs before c (Raised l b) h e)
-
-pub one_more : {A : Type 0} (xs : List A) (i : ℕ) (all more : List A) (x : A) → length xs ≤ i → all ≡ take i xs → more ≡ all ++ x ∷ [] → more ≡ xs ++ x ∷ []
-one_more xs i all more x done was now = now ∙ ap (λ ys. ys ++ x ∷ []) (was ∙ take_all i xs done)
 
 -- ---- steps of loops
 pub looked : (bs : List Bound) (i : ℕ) (d : Bound) (index value : ℕ) → i < length bs → value ≡ names_of (take i bs) index

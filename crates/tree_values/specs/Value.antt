@@ -8,7 +8,8 @@ use Rattle.ufl_tree.specs.Reading.{typed_of}
 use Rattle.ufl_tree.specs.Indices.{Names, index_value, index_values, named, direction, repeated, with_names, front, back}
 use Rattle.ufl_tree.specs.Places.{table_of, Table, function_place, piece_place}
 use Rattle.ufl_meaning.specs.Environment.{Environment, raised, parameter_number}
-use Rattle.ufl_meaning.specs.Operators.{Components, along, two_value, one_in, turned_over, matrix_value, summed, trace_value, unit_or_nil, at_place}
+use Rattle.ufl_meaning.specs.Operators.{Components, along, two_value, one_in, turned_over, matrix_value, trace_value, unit_or_nil, at_place}
+use Rattle.monos.specs.Summed.{summed}
 use Rattle.ufl_meaning.specs.Value.{value}
 use Rattle.tree_values.specs.Scene.{names_of, environment_of, sum_over}
 use Rattle.tree_values.specs.declared.scene.Bound.{Bound}

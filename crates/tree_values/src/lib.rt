@@ -25,6 +25,8 @@ mod worked;
 mod worked_forms;
 #[cfg(test)]
 mod worked_terms;
+#[cfg(test)]
+mod worked_values;
 
 pub use densities::density;
 pub use environment::{Change, Given};

@@ -3,7 +3,7 @@
 ghost use Rattle.std.specs.Prelude.{◌≡◌, ◌≤◌, ◌++◌, IfOk, length};
 ghost use Rattle.ufl_tree.specs.Indices as spec;
 ghost use Rattle.ufl_tree.specs.Reading.{typed_of};
-ghost use Rattle.ufl_meaning.specs.Operators.{summed as summed_by};
+ghost use Rattle.monos.specs.Summed.{summed as summed_by};
 ghost use Rattle.tree_values.specs.Value.{summed_at};
 
 use reference::Fault;

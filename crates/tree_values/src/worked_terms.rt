@@ -1,285 +1,228 @@
-//! Values of small trees in index notation, against numbers worked out by hand at the point (2, 3, 5).
+//! Values of small trees in index notation, against numbers worked out by hand.
 
-use crate::environment::Given;
 use crate::meanings::meaning;
 use crate::poly::Poly;
 use crate::scene::Scene;
-use crate::worked::{at_point, coordinates, elements};
-use ratio::Ratio;
+use crate::worked::{FLOW, Name, PLACE, elements, function, functions, gives, whole};
 use reference::Fault;
 use sqlite_items::{Boxed, Items};
 use std::alloc::Global;
-use ufl_tree::{Function, Ix, Plain, Role};
+use ufl_tree::{Function, Ix, Plain};
 
-/// w is (x, y, z), which is (2, 3, 5).
-const W: Function = Function {
-    role: Role::Coefficient(0),
-    element: 0,
-};
-
-/// d is (y z, x, 2), which is (15, 2, 2).
-const D: Function = Function {
-    role: Role::Coefficient(1),
-    element: 0,
-};
-
-/// Trees; m is the component of w under label 1.
+/// What is put on a pile of trees, or made of those on top. The one summed index is `I`.
 #[derive(Clone, Copy)]
-enum Case {
-    Number,
-    Entry,
+enum Step {
+    Number(i128),
+    Of(Name, Ix),
     Negative,
     Sum,
     Product,
-    /// The sum over i of w[i] w[i], and over i below 2
-    Square,
-    Shorter,
-    /// The sum over i of w[i].dx(i)
-    Divergence,
-    /// (w[0] w[1] w[1]).dx(k)
-    Slope(u8),
-    Delta(u8, u8),
-    /// The sum over i of delta(i, 2) w[i]
-    Chosen,
-    /// Item k of w[0], w[1], w[2]
-    Item(u8),
-    /// The sum over i of item i times d[i]
-    Items,
-    /// m[0]; the derivative of m[0] m[0] by m[0], and by a component of another label
-    Marked,
-    Raised(u32),
-    /// The derivative of the sum over i of m[i] m[i] by m[k]
-    ByComponent(u8),
-    /// That of m[0]^3 by m[0], twice
-    Twice,
-    /// The derivative of w[0] w[0] by w along d, that of w[0] w[1] along w, and that of w[0]^3 along d, twice
-    Along,
-    AlongItself,
-    AlongTwice,
-    /// The derivative by w along d of that of m[0] m[0] by m[0]
-    Mixed,
+    /// The sum over the values of `I` below this one.
+    Over(u8),
+    Dx(Ix),
+    Delta(Ix, Ix),
+    /// The item of this number of the three on top.
+    Item(Ix),
+    /// A component of w under label 1.
+    Mark(Ix),
+    /// The derivative by a component of a label.
+    Raise(u32, u8),
+    /// The derivative by w along a function.
+    Turn(Name),
 }
 
-fn boxed(alloc: Global, e: Plain) -> Result<Boxed<Plain>, Fault> {
-    Ok(Boxed::new(alloc, e)?)
+use Step::{Delta, Dx, Item, Mark, Negative, Number, Of, Over, Product, Raise, Sum, Turn};
+
+const I: Ix = Ix::Named(7);
+
+/// The components of w = (x, y, z).
+const X: Step = Of(PLACE, Ix::Fixed(0));
+
+const Y: Step = Of(PLACE, Ix::Fixed(1));
+
+const Z: Step = Of(PLACE, Ix::Fixed(2));
+
+/// w[i]
+const W_I: Step = Of(PLACE, I);
+
+/// The first component of w under label 1.
+const M: Step = Mark(Ix::Fixed(0));
+
+fn top(pile: &mut Items<Plain>) -> Result<Plain, Fault> {
+    pile.pop().ok_or(Fault::Shape)
 }
 
-fn of(alloc: Global, f: Function, i: Ix) -> Result<Plain, Fault> {
+fn top_boxed(alloc: Global, pile: &mut Items<Plain>) -> Result<Boxed<Plain>, Fault> {
+    Ok(Boxed::new(alloc, top(pile)?)?)
+}
+
+fn named(name: Name) -> Result<Function, Fault> {
+    function(name).ok_or(Fault::Shape)
+}
+
+fn of(alloc: Global, name: Name, i: Ix) -> Result<Plain, Fault> {
     Ok(Plain::Fun {
-        f,
+        f: named(name)?,
         at: Items::from_slice(alloc, &[i])?,
     })
 }
 
-fn w(alloc: Global, k: u8) -> Result<Plain, Fault> {
-    of(alloc, W, Ix::Fixed(k))
+fn sum(alloc: Global, pile: &mut Items<Plain>) -> Result<Plain, Fault> {
+    let b = top_boxed(alloc, pile)?;
+    Ok(Plain::Sum(top_boxed(alloc, pile)?, b))
 }
 
-fn product(alloc: Global, a: Plain, b: Plain) -> Result<Plain, Fault> {
-    Ok(Plain::Prod(boxed(alloc, a)?, boxed(alloc, b)?))
+fn product(alloc: Global, pile: &mut Items<Plain>) -> Result<Plain, Fault> {
+    let b = top_boxed(alloc, pile)?;
+    Ok(Plain::Prod(top_boxed(alloc, pile)?, b))
 }
 
-fn over(alloc: Global, dim: u8, body: Plain) -> Result<Plain, Fault> {
-    Ok(Plain::Over {
-        index: 7,
-        dim,
-        body: boxed(alloc, body)?,
-    })
-}
-
-fn items(alloc: Global, at: Ix) -> Result<Plain, Fault> {
+fn item(alloc: Global, at: Ix, pile: &mut Items<Plain>) -> Result<Plain, Fault> {
+    let (third, second, first) = (top(pile)?, top(pile)?, top(pile)?);
     let mut items = Items::new(alloc);
-    for k in 0..3 {
-        items.push(w(alloc, k)?)?;
-    }
+    items.push(first)?;
+    items.push(second)?;
+    items.push(third)?;
     Ok(Plain::Pick { at, items })
 }
 
-fn marked(alloc: Global, i: Ix) -> Result<Plain, Fault> {
+fn mark(alloc: Global, i: Ix) -> Result<Plain, Fault> {
     Ok(Plain::Mark {
         label: 1,
         at: Items::from_slice(alloc, &[i])?,
-        body: boxed(alloc, of(alloc, W, i)?)?,
+        body: Boxed::new(alloc, of(alloc, PLACE, i)?)?,
     })
 }
 
-fn by_label(alloc: Global, label: u32, k: u8, body: Plain) -> Result<Plain, Fault> {
+fn raise(alloc: Global, label: u32, k: u8, pile: &mut Items<Plain>) -> Result<Plain, Fault> {
     Ok(Plain::Raise {
         label,
         at: Items::from_slice(alloc, &[Ix::Fixed(k)])?,
-        body: boxed(alloc, body)?,
+        body: top_boxed(alloc, pile)?,
     })
 }
 
-fn turned(alloc: Global, dir: Function, body: Plain) -> Result<Plain, Fault> {
+fn turn(alloc: Global, along: Name, pile: &mut Items<Plain>) -> Result<Plain, Fault> {
     Ok(Plain::Turn {
-        coef: W,
-        dir,
-        body: boxed(alloc, body)?,
+        coef: named(PLACE)?,
+        dir: named(along)?,
+        body: top_boxed(alloc, pile)?,
     })
 }
 
-fn square_of_marked(alloc: Global, i: Ix) -> Result<Plain, Fault> {
-    product(alloc, marked(alloc, i)?, marked(alloc, i)?)
+fn over(alloc: Global, dim: u8, pile: &mut Items<Plain>) -> Result<Plain, Fault> {
+    Ok(Plain::Over {
+        index: 7,
+        dim,
+        body: top_boxed(alloc, pile)?,
+    })
 }
 
-fn cube(alloc: Global) -> Result<Plain, Fault> {
-    let square = product(alloc, w(alloc, 0)?, w(alloc, 0)?)?;
-    product(alloc, square, w(alloc, 0)?)
+fn dx(alloc: Global, at: Ix, pile: &mut Items<Plain>) -> Result<Plain, Fault> {
+    Ok(Plain::Dx {
+        at,
+        body: top_boxed(alloc, pile)?,
+    })
 }
 
-fn built(alloc: Global, case: Case) -> Result<Plain, Fault> {
-    let i = Ix::Named(7);
-    match case {
-        Case::Number => Ok(Plain::Num(Ratio::new(7, 1).ok_or(Fault::Range)?)),
-        Case::Entry => w(alloc, 1),
-        Case::Negative => Ok(Plain::Neg(boxed(alloc, w(alloc, 0)?)?)),
-        Case::Sum => {
-            let left = boxed(alloc, w(alloc, 0)?)?;
-            Ok(Plain::Sum(left, boxed(alloc, w(alloc, 1)?)?))
-        }
-        Case::Product => product(alloc, w(alloc, 0)?, w(alloc, 1)?),
-        Case::Square => {
-            let body = product(alloc, of(alloc, W, i)?, of(alloc, W, i)?)?;
-            over(alloc, 3, body)
-        }
-        Case::Shorter => {
-            let body = product(alloc, of(alloc, W, i)?, of(alloc, W, i)?)?;
-            over(alloc, 2, body)
-        }
-        Case::Divergence => {
-            let body = boxed(alloc, of(alloc, W, i)?)?;
-            over(alloc, 3, Plain::Dx { at: i, body })
-        }
-        Case::Slope(k) => {
-            let body = product(alloc, w(alloc, 0)?, w(alloc, 1)?)?;
-            let body = product(alloc, body, w(alloc, 1)?)?;
-            Ok(Plain::Dx {
-                at: Ix::Fixed(k),
-                body: boxed(alloc, body)?,
-            })
-        }
-        Case::Delta(j, k) => Ok(Plain::Delta(Ix::Fixed(j), Ix::Fixed(k))),
-        Case::Chosen => {
-            let delta = Plain::Delta(i, Ix::Fixed(2));
-            let body = product(alloc, delta, of(alloc, W, i)?)?;
-            over(alloc, 3, body)
-        }
-        Case::Item(k) => items(alloc, Ix::Fixed(k)),
-        Case::Items => {
-            let body = product(alloc, items(alloc, i)?, of(alloc, D, i)?)?;
-            over(alloc, 3, body)
-        }
-        _ => derived(alloc, case),
+fn made(alloc: Global, step: Step, pile: &mut Items<Plain>) -> Result<Plain, Fault> {
+    match step {
+        Step::Number(n) => Ok(Plain::Num(whole(n)?)),
+        Step::Of(name, i) => of(alloc, name, i),
+        Step::Negative => Ok(Plain::Neg(top_boxed(alloc, pile)?)),
+        Step::Sum => sum(alloc, pile),
+        Step::Product => product(alloc, pile),
+        Step::Over(dim) => over(alloc, dim, pile),
+        Step::Dx(i) => dx(alloc, i, pile),
+        Step::Delta(i, j) => Ok(Plain::Delta(i, j)),
+        Step::Item(i) => item(alloc, i, pile),
+        Step::Mark(i) => mark(alloc, i),
+        Step::Raise(label, k) => raise(alloc, label, k, pile),
+        Step::Turn(along) => turn(alloc, along, pile),
     }
 }
 
-fn derived(alloc: Global, case: Case) -> Result<Plain, Fault> {
-    let first = Ix::Fixed(0);
-    match case {
-        Case::Raised(label) => {
-            let body = square_of_marked(alloc, first)?;
-            by_label(alloc, label, 0, body)
-        }
-        Case::ByComponent(k) => {
-            let body = square_of_marked(alloc, Ix::Named(7))?;
-            by_label(alloc, 1, k, over(alloc, 3, body)?)
-        }
-        Case::Twice => {
-            let body = square_of_marked(alloc, first)?;
-            let body = product(alloc, body, marked(alloc, first)?)?;
-            let once = by_label(alloc, 1, 0, body)?;
-            by_label(alloc, 1, 0, once)
-        }
-        Case::Along => {
-            let body = product(alloc, w(alloc, 0)?, w(alloc, 0)?)?;
-            turned(alloc, D, body)
-        }
-        Case::AlongItself => {
-            let body = product(alloc, w(alloc, 0)?, w(alloc, 1)?)?;
-            turned(alloc, W, body)
-        }
-        Case::AlongTwice => {
-            let once = turned(alloc, D, cube(alloc)?)?;
-            turned(alloc, D, once)
-        }
-        Case::Mixed => {
-            let body = square_of_marked(alloc, first)?;
-            let inner = by_label(alloc, 1, 0, body)?;
-            turned(alloc, D, inner)
-        }
-        _ => marked(alloc, first),
+/// What is on top after the steps.
+fn built(alloc: Global, steps: &[Step]) -> Result<Plain, Fault> {
+    let mut pile = Items::new(alloc);
+    for step in steps {
+        let e = made(alloc, *step, &mut pile)?;
+        pile.push(e)?;
     }
+    top(&mut pile)
 }
 
-fn directions(alloc: Global) -> Result<Items<Poly>, Fault> {
-    let (y, z) = (Poly::coordinate(alloc, 1)?, Poly::coordinate(alloc, 2)?);
-    let two = Ratio::new(2, 1).ok_or(Fault::Range)?;
-    let mut all = Items::new(alloc);
-    all.push(y.product(alloc, &z)?)?;
-    all.push(Poly::coordinate(alloc, 0)?)?;
-    all.push(Poly::constant(alloc, two)?)?;
-    Ok(all)
+fn found(alloc: Global, steps: &[Step]) -> Result<Poly, Fault> {
+    let elements = elements(alloc)?;
+    let functions = functions(alloc)?;
+    let scene = Scene {
+        elements: elements.as_slice(),
+        functions: functions.as_slice(),
+        marker: 4,
+        changes: &[],
+        names: &[],
+    };
+    meaning(alloc, &scene, &built(alloc, steps)?)
 }
 
-/// A tree and its value.
-const CASES: [(Case, i128); 27] = [
-    (Case::Number, 7),
-    (Case::Entry, 3),
-    (Case::Negative, -2),
-    (Case::Sum, 5),
-    (Case::Product, 6),
-    // 4 + 9 + 25
-    (Case::Square, 38),
-    (Case::Shorter, 13),
-    (Case::Divergence, 3),
-    // of x y^2: y^2, 2 x y and nothing
-    (Case::Slope(0), 9),
-    (Case::Slope(1), 12),
-    (Case::Slope(2), 0),
-    (Case::Slope(3), 0),
-    (Case::Delta(1, 1), 1),
-    (Case::Delta(0, 1), 0),
-    (Case::Chosen, 5),
-    (Case::Item(1), 3),
-    (Case::Item(3), 0),
-    // 2 * 15 + 3 * 2 + 5 * 2
-    (Case::Items, 46),
-    (Case::Marked, 2),
-    (Case::Raised(1), 4),
-    (Case::Raised(2), 0),
-    (Case::ByComponent(1), 6),
-    (Case::Twice, 12),
-    // 2 * 2 * 15; 2 * 3 twice; 6 * 2 * 15^2; 2 * 15
-    (Case::Along, 60),
-    (Case::AlongItself, 12),
-    (Case::AlongTwice, 2700),
-    (Case::Mixed, 30),
+/// The steps of a tree, and its value at the point.
+type Row = (&'static [Step], i128);
+
+const TREES: [Row; 15] = [
+    (&[Number(7)], 7),
+    (&[Y], 3),
+    (&[X, Negative], -2),
+    (&[X, Y, Sum], 5),
+    (&[X, Y, Product], 6),
+    // w[i] w[i] over i below 3 and below 2: 4 + 9 + 25
+    (&[W_I, W_I, Product, Over(3)], 38),
+    (&[W_I, W_I, Product, Over(2)], 13),
+    // w[i].dx(i) over i
+    (&[W_I, Dx(I), Over(3)], 3),
+    (&[Delta(Ix::Fixed(1), Ix::Fixed(1))], 1),
+    (&[Delta(Ix::Fixed(0), Ix::Fixed(1))], 0),
+    // delta(i, 2) w[i] over i
+    (&[Delta(I, Ix::Fixed(2)), W_I, Product, Over(3)], 5),
+    (&[X, Y, Z, Item(Ix::Fixed(1))], 3),
+    (&[X, Y, Z, Item(Ix::Fixed(3))], 0),
+    // item i times d[i] over i, where d = (y z, x, 2): 2 * 15 + 3 * 2 + 5 * 2
+    (&[X, Y, Z, Item(I), Of(FLOW, I), Product, Over(3)], 46),
+    (&[M], 2),
 ];
 
-#[test]
-fn trees_in_index_notation(rt: HostRuntime) -> Result<(), Fault> {
-    let alloc = rt.alloc();
-    let elements = elements(alloc)?;
-    let mut functions = Items::new(alloc);
-    functions.push(Given {
-        role: Role::Coefficient(0),
-        components: coordinates(alloc)?,
-    })?;
-    functions.push(Given {
-        role: Role::Coefficient(1),
-        components: directions(alloc)?,
-    })?;
-    for (case, number) in CASES {
-        let scene = Scene {
-            elements: elements.as_slice(),
-            functions: functions.as_slice(),
-            marker: 4,
-            changes: &[],
-            names: &[],
-        };
-        let got = at_point(&meaning(alloc, &scene, &built(alloc, case)?)?)?;
-        assert!(rt; Ratio::new(number, 1) == Some(got));
+const DERIVATIVES: [Row; 12] = [
+    // of x y^2: y^2, 2 x y and nothing
+    (&[X, Y, Product, Y, Product, Dx(Ix::Fixed(0))], 9),
+    (&[X, Y, Product, Y, Product, Dx(Ix::Fixed(1))], 12),
+    (&[X, Y, Product, Y, Product, Dx(Ix::Fixed(2))], 0),
+    (&[X, Y, Product, Y, Product, Dx(Ix::Fixed(3))], 0),
+    // m[0] m[0] by m[0], where m is w under label 1, and by a component of another label
+    (&[M, M, Product, Raise(1, 0)], 4),
+    (&[M, M, Product, Raise(2, 0)], 0),
+    // m[i] m[i] over i, by m[1]
+    (&[Mark(I), Mark(I), Product, Over(3), Raise(1, 1)], 6),
+    // m[0]^3 by m[0], twice
+    (&[M, M, Product, M, Product, Raise(1, 0), Raise(1, 0)], 12),
+    // x x along d: 2 * 2 * 15; x y along w: 2 * 3 twice; x^3 along d twice: 6 * 2 * 15^2
+    (&[X, X, Product, Turn(FLOW)], 60),
+    (&[X, Y, Product, Turn(PLACE)], 12),
+    (&[X, X, Product, X, Product, Turn(FLOW), Turn(FLOW)], 2700),
+    // m[0] m[0] by m[0], and along d: 2 * 15
+    (&[M, M, Product, Raise(1, 0), Turn(FLOW)], 30),
+];
+
+/// The first row that comes otherwise.
+fn first_other(alloc: Global, rows: &[Row]) -> Option<usize> {
+    for (i, (steps, number)) in rows.iter().enumerate() {
+        if !gives(found(alloc, steps), *number, 1) {
+            return Some(i);
+        }
     }
-    Ok(())
+    None
+}
+
+#[test]
+fn trees_in_index_notation(rt: HostRuntime) {
+    assert!(rt; first_other(rt.alloc(), &TREES).is_none());
+    assert!(rt; first_other(rt.alloc(), &DERIVATIVES).is_none());
 }

@@ -1,21 +1,20 @@
 -- The element of each function of an expression that fits a table is on the expression's cell
-use Rattle.std.proofs.Common.{◌≡◌, ℕ, Bool, true, false, if◌then◌else◌, List, [], Option, None, Some, slice_get, Ok, Err, refl, sym, ap, ◌∙◌, subst}
+use Rattle.std.proofs.Common.{◌≡◌, Bool, true, false, if◌then◌else◌, [], Option, None, Some, slice_get, Ok, Err, refl, sym, ap, ◌∙◌, subst}
 use Rattle.spaces.specs.declared.cell.Cell.{Cell}
 use Rattle.spaces.specs.Space.{Space, cell_of}
-use Rattle.ufl_tree.specs.declared.function.Function.{Function}
 use Rattle.ufl_tree.specs.declared.function.Role.{Role}
 use Rattle.ufl_tree.specs.Places.{Table, element_shape, Piece, sub_element}
 use Rattle.ufl_tree.specs.Typed.{Kind, Typed, number, identity, function, piece, one, two, power, index, partial, tensor, list, variable, diff, TypedList, no_items, item, own_kind}
 use Rattle.ufl_tree.specs.Functions.{EachFunctionOfAll, Each}
-use Rattle.ufl_tree.proofs.FunctionLaws.{weaker, all_weaker}
-use Rattle.ufl_expr.specs.declared.refusal.TypeRefusal.{TypeRefusal}
+use Rattle.ufl_tree.proofs.FunctionLaws.{weaker}
 use Rattle.ufl_expr.specs.declared.refusal.TypeRefusal.TheVariants.{Kind as OfKind}
 use Rattle.ufl_expr.specs.Shapes.{ShapeVerdict}
 use Rattle.ufl_expr.specs.Frees.{FreeVerdict, none_free}
-use Rattle.ufl_expr.specs.Table.{CellVerdict, kind_from, same_cell, joined_cell, cell_further, cell_behind, has_argument, variable_cell, kinds_of, IsTyped, AreTyped}
+use Rattle.spaces.specs.Cell.{same_cell}
+use Rattle.ufl_expr.specs.Table.{CellVerdict, kind_from, joined_cell, cell_further, cell_behind, has_argument, variable_cell, kinds_of, IsTyped, AreTyped}
 use Rattle.ufl_expr.specs.Elements.{may_have, space_for, space_in, function_kind, function_in, piece_kind, piece_in, IsSpaceOn, IsOn}
 use Rattle.ufl_expr.specs.Fits.{FitsTable}
-use Rattle.ufl_expr.proofs.ElementLaws.{cell_true}
+use Rattle.spaces.proofs.EqualityLaws.{cell_true}
 
 -- ---- cells
 -- what is on the cell of an operand is on that of the whole

@@ -1,31 +1,29 @@
 -- The builders keep each property of all functions of a tree: to fit a table of elements, and to have the elements of a list
 use Rattle.std.proofs.Common.{◌≡◌, ℕ, Bool, true, false, if◌then◌else◌, List, [], ◌∷◌, refl, sym, ap, ◌∙◌, subst, Option, None, Some, Result, Ok, Err, zero, suc, ◌++◌, slice_get}
-use Rattle.ratio.specs.declared.reduced.Ratio.{Ratio}
 use Rattle.spaces.specs.declared.cell.Cell.{Cell}
 use Rattle.spaces.specs.Space.{Space}
+use Rattle.spaces.specs.Equality.{same_space}
+use Rattle.spaces.proofs.EqualityLaws.{spaces_equal}
 use Rattle.ufl_tree.specs.declared.function.Function.{Function}
 use Rattle.ufl_tree.specs.declared.function.Role.{Role}
 use Rattle.ufl_tree.specs.declared.function.Role.TheVariants.{Test, Trial, Position, Coefficient}
-use Rattle.ufl_tree.specs.declared.function.Ix.{Ix}
-use Rattle.ufl_tree.specs.declared.tree.Op1.{Op1}
-use Rattle.ufl_tree.specs.declared.tree.Op2.{Op2}
 use Rattle.ufl_tree.specs.declared.tree.Tree.{Tree}
 use Rattle.ufl_tree.specs.declared.tree.Node.{Node}
 use Rattle.ufl_tree.specs.declared.tree.Node.TheVariants as v
 use Rattle.ufl_tree.specs.Places.{Table, sub_element}
-use Rattle.ufl_tree.specs.Typed.{Kind, Typed, number, identity, function, piece, one, two, power, index, partial, tensor, list, variable, diff, TypedList, no_items, item}
+use Rattle.ufl_tree.specs.Typed.{Kind, Typed, number, identity, function, piece, one, two, power, index, partial, tensor, list, variable, diff}
 use Rattle.ufl_tree.specs.Reading.{typed_of, tree_with}
-use Rattle.ufl_tree.specs.Functions.{EachFunction, EachFunctionOfAll, Each}
+use Rattle.ufl_tree.specs.Functions.{EachFunction, EachFunctionOfAll}
 use Rattle.ufl_tree.proofs.ReadingLaws.{typed_of-Number, typed_of-Identity, typed_of-Fun, typed_of-Piece, typed_of-One, typed_of-Two, typed_of-Power, typed_of-Index, typed_of-Partial, typed_of-Tensor, typed_of-List, typed_of-Variable, typed_of-Diff}
 use Rattle.ufl_tree.proofs.FunctionLaws.{each_weaker, weaker}
 use Rattle.ufl_expr.specs.declared.refusal.TypeRefusal.{TypeRefusal}
 use Rattle.ufl_expr.specs.declared.refusal.TypeRefusal.TheVariants.{Nodes}
 use Rattle.ufl_expr.specs.Table.{Verdict}
-use Rattle.ufl_expr.specs.Elements.{space_for, function_kind, function_in, piece_kind, piece_in, position_space, position_at, position_kind, same_space, number_of}
+use Rattle.ufl_expr.specs.Elements.{space_for, function_kind, function_in, piece_kind, piece_in, position_space, position_at, position_kind, number_of}
 use Rattle.ufl_expr.specs.Building.{built, positioned, fits, EachTree, BuildersKeep}
 use Rattle.ufl_expr.specs.Fits.{FitsTable, Fits, BuildersFit}
 use Rattle.ufl_expr.specs.Numbered.{IsElementOf, HasItsElement, IsNumbered, Numbered, BuildersNumber}
-use Rattle.ufl_expr.proofs.ElementLaws.{found_at, space_refl}
+use Rattle.ufl_expr.proofs.ElementLaws.{found_at}
 use Rattle.ufl_expr.proofs.ListLaws.{listed}
 
 -- what is built is a tree of the node, with the kind of the verdict
@@ -119,7 +117,7 @@ position_choice false s h = cc
 pub position_in : (table : Table) (c : Cell) (n : ℕ) → number_of (position_space c) table ≡ Some n → function_in table (position_at n) ≡ Ok (position_kind c)
 position_in table c n h =
     ap (λ s. function_kind (space_for Position s)) (found_at n (position_space c) table h)
-    ∙ ap function_kind (position_choice (same_space (position_space c) (position_space c)) (position_space c) (space_refl (position_space c)))
+    ∙ ap function_kind (position_choice (same_space (position_space c) (position_space c)) (position_space c) ((spaces_equal (position_space c) (position_space c)).1 refl))
 
 pub position_built : (table : Table) (c : Cell) (n : ℕ) → Some n ≡ number_of (position_space c) table
     → built (function_in table (position_at n)) (v.Fun (position_at n)) ≡ positioned c (number_of (position_space c) table)

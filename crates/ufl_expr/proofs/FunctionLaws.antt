@@ -19,11 +19,6 @@ use Rattle.ufl_expr.specs.Table.{IsTyped, Verdict}
 use Rattle.ufl_expr.specs.Elements.{space_in, function_kind, function_in, piece_kind, piece_in}
 use Rattle.ufl_expr.proofs.BuildingLaws.{Counted, counted_same}
 
-space_at : (es : List ElementTree) (k : ℕ) (e : ElementTree) → slice_get es k ≡ Some e → slice_get (table_of es) k ≡ Some (space_of e)
-space_at [] k e h = cc
-space_at (x ∷ es) zero e h = let same : x ≡ e = cc in ap (λ y. Some (space_of y)) same
-space_at (x ∷ es) (suc k) e h = space_at es k e h
-
 none_at : (es : List ElementTree) (k : ℕ) → slice_get es k ≡ None → slice_get (table_of es) k ≡ None
 none_at [] k h = refl
 none_at (x ∷ es) zero h = cc
@@ -31,18 +26,6 @@ none_at (x ∷ es) (suc k) h = none_at es k h
 
 pub no_element : (es : List ElementTree) (k : ℕ) → None ≡ slice_get es k → function_kind (slice_get (table_of es) k) ≡ Err OfKind
 no_element es k h = ap function_kind (none_at es k (sym h))
-
-kind_same : (s : Space) (shape : List ℕ) (free : List Free) (cell : Cell) → shape ≡ element_shape s → free ≡ [] → cell ≡ cell_of s
-    → function_kind (Some s) ≡ Ok (record { shape = shape; free = free; cell = Some cell })
-kind_same s shape free cell a b c =
-    ap (λ x. Ok (record { shape = x; free = []; cell = Some (cell_of s) })) (sym a)
-    ∙ ap (λ y. Ok (record { shape = shape; free = y; cell = Some (cell_of s) })) (sym b)
-    ∙ ap (λ z. Ok (record { shape = shape; free = free; cell = Some z })) (sym c)
-
-pub of_element : (es : List ElementTree) (k : ℕ) (e : ElementTree) (shape : List ℕ) (free : List Free) (cell : Cell) → Some e ≡ slice_get es k
-    → shape ≡ element_shape (space_of e) → free ≡ [] → cell ≡ cell_of (space_of e)
-    → function_kind (slice_get (table_of es) k) ≡ Ok (record { shape = shape; free = free; cell = Some cell })
-of_element es k e shape free cell h a b c = ap function_kind (space_at es k e (sym h)) ∙ kind_same (space_of e) shape free cell a b c
 
 function_typed : (o : Option Space) (k : Kind) → function_kind o ≡ Ok k → (k.free ≡ []) × IsSome k.cell
 function_typed None k h = cc
@@ -67,11 +50,3 @@ unfolding IsTyped nodes_of height_of
 counted_piece f n table k is =
     counted_same _ (piece k f n) 1 1 (typed_of-Piece f n k)
     (record { typed = piece_typed (space_in table f) (sub_element (space_in table f) n) k is; count = refl; depth = refl })
-
--- the part of a function of an element that is there
-pub piece_at : (es : List ElementTree) (k n : ℕ) (e : ElementTree) (w : Verdict) → Some e ≡ slice_get es k
-    → Gives w (piece_kind (Some (space_of e)) (piece_of (space_of e) n)) → Gives w (piece_kind (slice_get (table_of es) k) (sub_element (slice_get (table_of es) k) n))
-piece_at es k n e w h g = subst (λ o. Gives w (piece_kind o (sub_element o n))) (sym (space_at es k e (sym h))) g
-
-pub no_piece : (es : List ElementTree) (k n : ℕ) → None ≡ slice_get es k → piece_kind (slice_get (table_of es) k) (sub_element (slice_get (table_of es) k) n) ≡ Err OfKind
-no_piece es k n h = ap (λ o. piece_kind o (sub_element o n)) (none_at es k (sym h))

@@ -1,6 +1,5 @@
 pub mod BuildingLaws
 pub mod FreeLaws
-pub mod ArgumentLaws
 pub mod ListLaws
 pub mod ElementLaws
 pub mod FunctionLaws

@@ -1,11 +1,11 @@
 -- Tables of elements, and what functions of them say of their values
-use Rattle.std.specs.Prelude.{◌≡◌, ℕ, suc, ◌==◌, Bool, true, false, if◌then◌else◌, List, [], ◌∷◌, ◌++◌, Option, None, Some, Ok, Err, slice_get}
+use Rattle.std.specs.Prelude.{◌≡◌, ℕ, suc, Bool, true, false, if◌then◌else◌, List, [], ◌∷◌, ◌++◌, Option, None, Some, Ok, Err, slice_get}
 use Rattle.spaces.specs.declared.cell.Cell.{Cell}
-use Rattle.spaces.specs.declared.family.Family.{Family}
-use Rattle.spaces.specs.declared.family.Family.TheVariants.{Lagrange, Dg, Real}
+use Rattle.spaces.specs.declared.family.Family.TheVariants.{Lagrange}
 use Rattle.spaces.specs.declared.element_tree.ElementTree.{ElementTree}
-use Rattle.spaces.specs.Space.{Space, scalar, vector, tensor, mixed, Spaces, no_spaces, space, cell_of}
+use Rattle.spaces.specs.Space.{Space, scalar, vector, cell_of}
 use Rattle.spaces.specs.Cell.{dimension}
+use Rattle.spaces.specs.Equality.{same_space}
 use Rattle.spaces.specs.Reading.{space_of}
 use Rattle.ufl_tree.specs.declared.function.Function.{Function}
 use Rattle.ufl_tree.specs.declared.function.Role.{Role}
@@ -13,30 +13,7 @@ use Rattle.ufl_tree.specs.declared.function.Role.TheVariants.{Test, Trial, Posit
 use Rattle.ufl_tree.specs.Typed.{Kind}
 use Rattle.ufl_tree.specs.Places.{Table, table_of, element_shape, Piece, sub_element}
 use Rattle.ufl_expr.specs.declared.refusal.TypeRefusal.TheVariants.{Kind as OfKind}
-use Rattle.ufl_expr.specs.Table.{Verdict, same_cell}
-
--- ---- equal elements
-abbrev pub same_family : Family → Family → Bool
-same_family Lagrange Lagrange = true
-same_family Dg Dg = true
-same_family Real Real = true
-same_family _ _ = false
-
-abbrev pub same_sizes : ℕ → ℕ → ℕ → ℕ → Bool
-same_sizes m n k l = if m == k then n == l else false
-
-abbrev mutual
-  pub same_space : Space → Space → Bool
-  same_space (scalar f c q) (scalar g e r) = if same_family f g then (if same_cell c e then q == r else false) else false
-  same_space (vector s m) (vector t n) = if m == n then same_space s t else false
-  same_space (tensor s m n) (tensor t k l) = if same_sizes m n k l then same_space s t else false
-  same_space (mixed ss) (mixed ts) = same_spaces ss ts
-  same_space _ _ = false
-
-  pub same_spaces : Spaces → Spaces → Bool
-  same_spaces no_spaces no_spaces = true
-  same_spaces (space s ss) (space t ts) = if same_space s t then same_spaces ss ts else false
-  same_spaces _ _ = false
+use Rattle.ufl_expr.specs.Table.{Verdict}
 
 -- ---- tables
 -- the number of an element, counted from n

@@ -6,7 +6,6 @@ pub mod Sizes
 pub mod Building
 pub mod Signatures
 pub mod Invariant
-pub mod Arguments
 pub mod Extent
 pub mod Elements
 pub mod Distinct

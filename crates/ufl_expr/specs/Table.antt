@@ -2,7 +2,7 @@
 -- Source: M. Alnaes and others, Unified Form Language, ACM TOMS 40 (2014), sections 3 and 4
 use Rattle.std.specs.Prelude.{◌≡◌, ◌≤◌, ℕ, ◌&&◌, Bool, true, false, nat_le, if◌then◌else◌, List, [], ◌∷◌, ◌++◌, length, Option, None, Some, Result, Ok, Err, IsSome}
 use Rattle.spaces.specs.declared.cell.Cell.{Cell}
-use Rattle.spaces.specs.declared.cell.Cell.TheVariants.{Interval, Triangle, Tetrahedron}
+use Rattle.spaces.specs.Cell.{same_cell}
 use Rattle.ufl_tree.specs.declared.function.Free.{Free}
 use Rattle.ufl_tree.specs.declared.function.Role.{Role}
 use Rattle.ufl_tree.specs.declared.function.Role.TheVariants.{Test, Trial, Position, Coefficient}
@@ -30,12 +30,6 @@ kind_from (Ok c) (Ok s) (Err r) = Err r
 kind_from (Ok c) (Ok s) (Ok f) = Ok (record { shape = s; free = f; cell = c })
 
 -- ---- cells
-abbrev pub same_cell : Cell → Cell → Bool
-same_cell Interval Interval = true
-same_cell Triangle Triangle = true
-same_cell Tetrahedron Tetrahedron = true
-same_cell _ _ = false
-
 -- of two operands, which refuse different cells
 abbrev pub joined_cell : Option Cell → Option Cell → CellVerdict
 joined_cell None c = Ok c

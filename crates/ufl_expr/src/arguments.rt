@@ -1,9 +1,9 @@
 //! Arguments and labels in trees.
 
 ghost use Rattle.std.specs.Prelude.{◌≡◌, map};
-ghost use Rattle.ufl_tree.specs.Reading.{typed_of, typed_list};
+ghost use Rattle.ufl_tree.specs.Reading.{typed_of, typed_list, tree_with};
+ghost use Rattle.ufl_tree.specs.Typed.{Kind};
 ghost use Rattle.ufl_expr.specs.Table.{is_argument, has_argument, have_argument, label_of};
-ghost use Rattle.ufl_expr.specs.Arguments.{node_argument, node_label};
 
 use crate::refusal::TypeRefusal;
 use ufl_tree::{Node, Role, Tree};
@@ -19,7 +19,6 @@ fn is_argument(role: Role) -> bool
 }
 
 /// An argument occurs in the tree.
-#[tactic(auto, using(crate::proofs::ArgumentLaws::same_argument))]
 #[cycle(arguments)]
 pub(crate) fn has_argument(tree: &Tree) -> bool
     ensures { result ≡ has_argument (typed_of tree.now) }
@@ -27,11 +26,11 @@ pub(crate) fn has_argument(tree: &Tree) -> bool
     node_argument(&tree.node)
 }
 
-/// An argument occurs in what stands at a node.
-#[tactic(auto, using(crate::proofs::ArgumentLaws::argument_readings))]
+/// An argument occurs in what stands at a node, whatever the node says of its value.
+#[tactic(auto, using(ufl_tree::proofs::ReadingLaws::readings))]
 #[cycle(arguments)]
 fn node_argument(node: &Node) -> bool
-    ensures { result ≡ node_argument node.now }
+    ensures { (k : Kind) → result ≡ has_argument (typed_of (tree_with node.now k)) }
 {
     match node {
         Node::Number(_) | Node::Identity(_) => false,
@@ -63,16 +62,15 @@ fn have_argument(trees: &[Tree]) -> bool
 }
 
 /// The label of a variable. `Kind` exactly where the tree is none.
-#[tactic(auto, using(crate::proofs::ArgumentLaws::same_label))]
 pub(crate) fn label_of(tree: &Tree) -> Result<u32, TypeRefusal>
     ensures { result ≡ label_of (typed_of tree.now) }
 {
     node_label(&tree.node)
 }
 
-#[tactic(auto, using(crate::proofs::ArgumentLaws::label_readings))]
+#[tactic(auto, using(ufl_tree::proofs::ReadingLaws::readings))]
 fn node_label(node: &Node) -> Result<u32, TypeRefusal>
-    ensures { result ≡ node_label node.now }
+    ensures { (k : Kind) → result ≡ label_of (typed_of (tree_with node.now k)) }
 {
     match node {
         Node::Variable(label, _) => Ok(*label),

@@ -4,12 +4,12 @@ ghost use Rattle.std.specs.Prelude.{◌≡◌, ◌<◌, [], length, map, Some, I
 ghost use Rattle.std.specs.Option.{option_copied};
 ghost use Rattle.spaces.specs.declared.family.Family.TheVariants.{Lagrange};
 ghost use Rattle.spaces.specs.Space.{scalar};
-ghost use Rattle.spaces.specs.Reading.{space_of, spaces_in};
+ghost use Rattle.spaces.specs.Equality.{same_space};
+ghost use Rattle.spaces.specs.Reading.{space_of};
 ghost use Rattle.ufl_tree.specs.Places.{table_of};
-ghost use Rattle.ufl_expr.specs.Table.{same_cell};
-ghost use Rattle.ufl_expr.specs.Elements.{position_space, may_have, spaces_of, space_in, same_family, same_sizes, same_space, same_spaces, number_of, with_element};
+ghost use Rattle.ufl_expr.specs.Elements.{position_space, may_have, spaces_of, space_in, number_of, with_element};
 
-use spaces::{Cell, Element, ElementTree, Family};
+use spaces::{Cell, Element, ElementTree, Family, same_element};
 use sqlite_items::Items;
 use std::alloc::{AllocError, Global};
 use std::marker::Model;
@@ -39,95 +39,6 @@ impl Model for Elements {
     ghost invariant = { IsTable };
 }
 
-fn same_family(family: Family, other: Family) -> bool
-    ensures { result ≡ same_family family other }
-{
-    family == other
-}
-
-fn same_cell(cell: Cell, other: Cell) -> bool
-    ensures { result ≡ same_cell cell other }
-{
-    cell == other
-}
-
-/// As many rows, and as many columns.
-fn same_sizes(rows: u8, columns: u8, other_rows: u8, other_columns: u8) -> bool
-    ensures { result ≡ same_sizes rows columns other_rows other_columns }
-{
-    rows == other_rows && columns == other_columns
-}
-
-/// Equal trees.
-#[tactic(auto, using(spaces::proofs::ReadingLaws::readings))]
-#[cycle(same)]
-fn same_element(tree: &ElementTree, other: &ElementTree) -> bool
-    ensures { result ≡ same_space (space_of tree.now) (space_of other.now) }
-{
-    match tree {
-        ElementTree::Scalar {
-            family,
-            cell,
-            degree,
-        } => match other {
-            ElementTree::Scalar {
-                family: f,
-                cell: c,
-                degree: d,
-            } => same_family(*family, *f) && same_cell(*cell, *c) && *degree == *d,
-            ElementTree::Vector { .. } => false,
-            ElementTree::Tensor { .. } => false,
-            ElementTree::Mixed { .. } => false,
-        },
-        ElementTree::Vector { part, dim } => match other {
-            ElementTree::Scalar { .. } => false,
-            ElementTree::Vector { part: p, dim: d } => *dim == *d
-                && same_element(part.get(), p.get()),
-            ElementTree::Tensor { .. } => false,
-            ElementTree::Mixed { .. } => false,
-        },
-        ElementTree::Tensor { part, rows, cols } => match other {
-            ElementTree::Scalar { .. } => false,
-            ElementTree::Vector { .. } => false,
-            ElementTree::Tensor {
-                part: p,
-                rows: m,
-                cols: n,
-            } => {
-                let same = same_sizes(*rows, *cols, *m, *n);
-                same && same_element(part.get(), p.get())
-            }
-            ElementTree::Mixed { .. } => false,
-        },
-        ElementTree::Mixed { parts } => match other {
-            ElementTree::Scalar { .. } => false,
-            ElementTree::Vector { .. } => false,
-            ElementTree::Tensor { .. } => false,
-            ElementTree::Mixed { parts: ps } => same_elements(parts.as_slice(), ps.as_slice()),
-        },
-    }
-}
-
-/// Equal trees, one by one.
-#[cycle(same)]
-fn same_elements(trees: &[ElementTree], others: &[ElementTree]) -> bool
-    ensures { result ≡ same_spaces (spaces_in trees.now) (spaces_in others.now) }
-{
-    let mut left = others;
-    for tree in trees {
-        match left.split_first() {
-            None => return false,
-            Some((other, rest)) => {
-                if !same_element(tree, other) {
-                    return false;
-                }
-                left = rest;
-            }
-        }
-    }
-    left.is_empty()
-}
-
 /// The number of an equal element.
 fn number_of(tree: &ElementTree, items: &[Element]) -> Option<usize>
     ensures { result ≡ number_of (space_of tree.now) (table_of items.now) }
@@ -145,16 +56,12 @@ fn number_of(tree: &ElementTree, items: &[Element]) -> Option<usize>
 fn is_linear(tree: &ElementTree, cell: Cell) -> bool
     ensures { result ≡ same_space (space_of tree.now) (scalar Lagrange cell 1) }
 {
-    match tree {
-        ElementTree::Scalar {
-            family,
-            cell: c,
-            degree,
-        } => same_family(*family, Family::Lagrange) && same_cell(*c, cell) && *degree == 1,
-        ElementTree::Vector { .. } => false,
-        ElementTree::Tensor { .. } => false,
-        ElementTree::Mixed { .. } => false,
-    }
+    let linear = ElementTree::Scalar {
+        family: Family::Lagrange,
+        cell,
+        degree: 1,
+    };
+    same_element(tree, &linear)
 }
 
 /// The element of positions in this cell.

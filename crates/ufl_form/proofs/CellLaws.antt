@@ -13,9 +13,10 @@ use Rattle.ufl_expr.specs.declared.refusal.TypeRefusal.TheVariants.{Kind as OfKi
 use Rattle.ufl_expr.specs.Elements.{IsSpaceOn, IsOn}
 use Rattle.ufl_expr.specs.Fits.{FitsTable}
 use Rattle.ufl_expr.specs.Shapes.{is_scalar}
-use Rattle.ufl_expr.specs.Table.{IsTyped, same_cell}
+use Rattle.ufl_expr.specs.Table.{IsTyped}
+use Rattle.spaces.specs.Cell.{same_cell}
 use Rattle.ufl_expr.proofs.CellLaws.{tree_on}
-use Rattle.ufl_expr.proofs.ElementLaws.{cell_true}
+use Rattle.spaces.proofs.EqualityLaws.{cell_true}
 use Rattle.ufl_form.specs.declared.arguments.Arguments.{Arguments}
 use Rattle.ufl_form.specs.declared.table.FormKind.{FormKind}
 use Rattle.ufl_form.specs.Arguments.{no_arguments, argument_in, argument, joined_element, arguments_from, joined, joined_both, tree_arguments, arguments_behind}

@@ -18,8 +18,8 @@ use Rattle.ufl_expr.specs.declared.refusal.TypeRefusal.TheVariants.{Nodes, Kind 
 use Rattle.ufl_expr.specs.Elements.{IsSpaceOn, IsOn}
 use Rattle.ufl_expr.specs.Fits.{FitsTable}
 use Rattle.ufl_expr.specs.Numbered.{HasItsElement, IsNumbered}
-use Rattle.ufl_expr.specs.Table.{same_cell}
-use Rattle.ufl_expr.proofs.ElementLaws.{cell_true}
+use Rattle.spaces.specs.Cell.{same_cell}
+use Rattle.spaces.proofs.EqualityLaws.{cell_true}
 use Rattle.ufl_expr.proofs.FitLaws.{fits_longer, element_longer, numbered_longer}
 use Rattle.ufl_form.specs.declared.form_tree.FormTree.{FormTree}
 use Rattle.ufl_form.specs.declared.form_tree.FormTree.TheVariants as v

@@ -107,14 +107,6 @@ described_adjoint t k p n h D =
       depth = ap (λ x. x + 1) D.depth;
     })
 
--- ---- what is built
-pub formed_part : (N : FormTree → FormTree) (r : Result FormTree TypeRefusal) (s t u : FormTree) → r ≡ formed (N s) → s ≡ t → t ≡ u → formed (N u) ≡ r
-formed_part N r s t u e is view = sym (ap (λ x. formed (N x)) (is ∙ view)) ∙ sym e
-
-pub formed_parts : (N : FormTree → FormTree → FormTree) (r : Result FormTree TypeRefusal) (s t u x y z : FormTree) → r ≡ formed (N s x) → s ≡ t → t ≡ u → x ≡ y → y ≡ z
-    → formed (N u z) ≡ r
-formed_parts N r s t u x y z e is view it see = sym (ap₂ (λ a b. formed (N a b)) (is ∙ view) (it ∙ see)) ∙ sym e
-
 -- ---- what is refused
 pub formed_refused : (t : FormTree) (f : FormTerm) (r : TypeRefusal) → form_of t ≡ f → form_kind f ≡ Err r → formed t ≡ Err r
 unfolding formed checked

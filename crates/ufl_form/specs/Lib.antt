@@ -2,7 +2,6 @@ pub mod Reading
 pub mod Patterns
 pub mod Pairs
 pub mod Arguments
-pub mod Nodes
 pub mod Table
 pub mod Sizes
 pub mod Building

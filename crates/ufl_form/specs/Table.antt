@@ -15,7 +15,8 @@ use Rattle.ufl_tree.specs.Places.{Table}
 use Rattle.ufl_expr.specs.declared.refusal.TypeRefusal.{TypeRefusal}
 use Rattle.ufl_expr.specs.declared.refusal.TypeRefusal.TheVariants.{Kind as OfKind, Shape, FreeIndex}
 use Rattle.ufl_expr.specs.Shapes.{is_scalar}
-use Rattle.ufl_expr.specs.Table.{IsTyped, same_cell}
+use Rattle.spaces.specs.Cell.{same_cell}
+use Rattle.ufl_expr.specs.Table.{IsTyped}
 use Rattle.ufl_form.specs.declared.arguments.Arguments.{Arguments}
 use Rattle.ufl_form.specs.declared.pattern_set.PatternSet.{PatternSet}
 use Rattle.ufl_form.specs.declared.table.FormKind.{FormKind}

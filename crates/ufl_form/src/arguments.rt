@@ -1,9 +1,9 @@
 //! The elements of the arguments of an expression: each argument has one.
 
 ghost use Rattle.std.specs.Prelude.{◌≡◌, map, Some};
-ghost use Rattle.ufl_tree.specs.Reading.{typed_of, typed_list};
+ghost use Rattle.ufl_tree.specs.Reading.{typed_of, typed_list, tree_with};
+ghost use Rattle.ufl_tree.specs.Typed.{Kind};
 ghost use Rattle.ufl_form.specs.Arguments.{no_arguments, argument, joined_element, joined, joined_both, tree_arguments, arguments_behind};
-ghost use Rattle.ufl_form.specs.Nodes.{node_arguments};
 
 use ufl_tree::{Function, Node, Role, Tree};
 
@@ -84,7 +84,6 @@ fn joined_both(a: Option<Arguments>, b: Option<Arguments>) -> Option<Arguments>
 }
 
 /// The arguments of a tree, or `None` exactly where one has two elements.
-#[tactic(auto, using(crate::proofs::ArgumentLaws::same_arguments))]
 #[cycle(elements)]
 pub(crate) fn tree_arguments(tree: &Tree) -> Option<Arguments>
     ensures { result ≡ tree_arguments (typed_of tree.now) }
@@ -92,11 +91,11 @@ pub(crate) fn tree_arguments(tree: &Tree) -> Option<Arguments>
     node_arguments(&tree.node)
 }
 
-/// Of what stands at a node.
-#[tactic(auto, using(crate::proofs::ArgumentLaws::argument_readings))]
+/// Of what stands at a node, whatever the node says of its value.
+#[tactic(auto, using(ufl_tree::proofs::ReadingLaws::readings))]
 #[cycle(elements)]
 fn node_arguments(node: &Node) -> Option<Arguments>
-    ensures { result ≡ node_arguments node.now }
+    ensures { (k : Kind) → result ≡ tree_arguments (typed_of (tree_with node.now k)) }
 {
     match node {
         Node::Number(_) | Node::Identity(_) => Some(Arguments::none()),

@@ -5,12 +5,12 @@ ghost use Rattle.spaces.specs.Reading.{space_of};
 ghost use Rattle.ufl_tree.specs.Reading.{typed_of};
 ghost use Rattle.ufl_expr.specs.Shapes.{is_scalar};
 ghost use Rattle.ufl_tree.specs.Places.{table_of};
-ghost use Rattle.ufl_expr.specs.Table.{same_cell};
+ghost use Rattle.spaces.specs.Cell.{same_cell};
 ghost use Rattle.ufl_form.specs.Table.{no_free, integral_from, integral_kind, with_arguments, sum_kind, right_kind, adjoint_kind, is_coefficient, is_direction, element_of, has_element, dropped, action_kind, derivative_kind, last_of, is_real, is_constant, varies_on, turned_kind};
 
 use crate::arguments::{Arguments, joined, tree_arguments};
 use crate::pattern_set::PatternSet;
-use spaces::{Cell, Element, ElementTree, Family};
+use spaces::{Cell, Element, ElementTree, Family, same_cell};
 use ufl_expr::{Elements, Expr, TypeRefusal};
 use ufl_tree::{Free, Function, Role};
 
@@ -81,12 +81,6 @@ fn with_arguments(cell: Cell, arguments: Option<Arguments>) -> Result<FormKind, 
         None => Err(TypeRefusal::Kind),
         Some(arguments) => Ok(FormKind { cell, arguments }),
     }
-}
-
-fn same_cell(cell: Cell, other: Cell) -> bool
-    ensures { result ≡ same_cell cell other }
-{
-    cell == other
 }
 
 /// Of a sum.

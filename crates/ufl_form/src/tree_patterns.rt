@@ -1,9 +1,9 @@
 //! The pattern set of an expression.
 
 ghost use Rattle.std.specs.Prelude.{◌≡◌, map};
-ghost use Rattle.ufl_tree.specs.Reading.{typed_of, typed_list};
+ghost use Rattle.ufl_tree.specs.Reading.{typed_of, typed_list, tree_with};
+ghost use Rattle.ufl_tree.specs.Typed.{Kind};
 ghost use Rattle.ufl_form.specs.Patterns.{no_pairs, both, tree_patterns, patterns_behind};
-ghost use Rattle.ufl_form.specs.Nodes.{node_patterns};
 
 use crate::pattern_set::PatternSet;
 use ufl_tree::{Node, Op2, Tree};
@@ -19,7 +19,6 @@ fn both(op: Op2, a: PatternSet, b: PatternSet) -> PatternSet
 }
 
 /// The pattern set of a tree.
-#[tactic(auto, using(crate::proofs::PatternLaws::same_patterns))]
 #[cycle(sets)]
 pub(crate) fn tree_patterns(tree: &Tree) -> PatternSet
     ensures { result ≡ tree_patterns (typed_of tree.now) }
@@ -27,11 +26,11 @@ pub(crate) fn tree_patterns(tree: &Tree) -> PatternSet
     node_patterns(&tree.node)
 }
 
-/// Of what stands at a node.
-#[tactic(auto, using(crate::proofs::PatternLaws::pattern_readings))]
+/// Of what stands at a node, whatever the node says of its value.
+#[tactic(auto, using(ufl_tree::proofs::ReadingLaws::readings))]
 #[cycle(sets)]
 fn node_patterns(node: &Node) -> PatternSet
-    ensures { result ≡ node_patterns node.now }
+    ensures { (k : Kind) → result ≡ tree_patterns (typed_of (tree_with node.now k)) }
 {
     match node {
         Node::Number(_) | Node::Identity(_) => PatternSet::unit(),

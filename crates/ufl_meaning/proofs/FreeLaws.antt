@@ -1,5 +1,5 @@
 -- A variable that occurs in no operand occurs in no result
-use Rattle.std.proofs.Common.{◌≡◌, ℕ, zero, suc, ◌==◌, ◌<◌, Bool, true, false, List, [], ◌∷◌, Option, None, Some, if◌then◌else◌, refl, sym, ap, ap₂, ◌∙◌, arith}
+use Rattle.std.proofs.Common.{◌≡◌, ℕ, zero, suc, ◌==◌, Bool, true, false, List, [], ◌∷◌, Option, None, Some, if◌then◌else◌, sym, ap, ap₂, ◌∙◌}
 use Rattle.algebra.specs.Ring.{Ring, natural}
 use Rattle.algebra.specs.RingLaws as L
 use Rattle.algebra.specs.Fraction.{Fraction, fractions, inverse, zero_fraction, one_fraction}

@@ -1,11 +1,11 @@
 -- Values, meanings and densities have no parameter but those in use
-use Rattle.std.proofs.Common.{◌≡◌, ℕ, zero, suc, ◌+◌, ◌≤◌, ◌<◌, List, [], ◌∷◌, ⊎_elim, sym, ◌∙◌, subst, arith}
+use Rattle.std.proofs.Common.{◌≡◌, ℕ, zero, suc, ◌≤◌, ◌<◌, List, [], ◌∷◌, ⊎_elim, ◌∙◌, subst, arith}
 use Rattle.std.proofs.lemmas.Bool.{cases_lt}
 use Rattle.ratio.specs.Value.{fraction_of}
 use Rattle.calculus.specs.Powers.{delta, delta_sym}
-use Rattle.calculus.specs.Polynomial.{Polynomial, nil, coefficient_of}
+use Rattle.calculus.specs.Polynomial.{Polynomial, coefficient_of}
 use Rattle.calculus.proofs.PolynomialLaws.{IsFree}
-use Rattle.ufl_tree.specs.Typed.{Typed, number, identity, function, piece, one, two, power, index, partial, tensor, list, variable, diff, TypedList, no_items, item, shape_of, free_of}
+use Rattle.ufl_tree.specs.Typed.{Typed, number, identity, function, piece, one, two, power, index, partial, tensor, list, variable, diff, TypedList, no_items, item, shape_of}
 use Rattle.ufl_tree.specs.Term.{Term, num, fun, mark, neg, sum, prod, over, dx, delta as unit, pick, raise, turn, Terms, no_terms, term}
 use Rattle.ufl_tree.specs.FormTerm.{FormTerm, integral, sum as form_sum, scale, left, right, action, adjoint, derivative}
 use Rattle.ufl_tree.specs.Indices.{Names, with_name, with_names, index_value, index_values, front, back}

@@ -4,3 +4,4 @@ pub mod Value
 pub mod Meaning
 pub mod Density
 pub mod Monomial
+pub mod Prelude

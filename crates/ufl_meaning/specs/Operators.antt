@@ -1,5 +1,5 @@
 -- The components of the operators, from those of their operands. Source: M. Alnaes and others, Unified Form Language, ACM TOMS 40 (2014), sections 3 and 4
-use Rattle.std.specs.Prelude.{ℕ, zero, suc, ◌==◌, List, [], ◌∷◌, ◌++◌, if◌then◌else◌, Option, None, Some}
+use Rattle.std.specs.Prelude.{ℕ, zero, suc, ◌==◌, List, [], ◌∷◌, if◌then◌else◌, Option, None, Some}
 use Rattle.algebra.specs.Ring.{natural}
 use Rattle.algebra.specs.Fraction.{fractions, inverse}
 use Rattle.calculus.specs.Polynomial.{Polynomial, nil, one, plus, times, negative, minus, constant, derivative}
@@ -9,7 +9,7 @@ use Rattle.ufl_tree.specs.declared.tree.Op1.{Op1}
 use Rattle.ufl_tree.specs.declared.tree.Op1.TheVariants.{Neg, Grad, NablaGrad, Div, NablaDiv, Curl, Transpose, Trace, Sym, Skew, Dev}
 use Rattle.ufl_tree.specs.declared.tree.Op2.{Op2}
 use Rattle.ufl_tree.specs.declared.tree.Op2.TheVariants.{Sum, Product, Dot, Inner, Outer, Cross}
-use Rattle.ufl_tree.specs.Indices.{Names, with_name, front, back, followed_by, first_size, last_size, repeated}
+use Rattle.ufl_tree.specs.Indices.{Names, with_name, front, back, followed_by, first_size, last_size}
 
 -- the components of a value
 abbrev pub Components : Type 0
@@ -125,8 +125,3 @@ two_value Dot s t f g b = dot_value s f g b
 two_value Inner s t f g b = sum_components s (λ c. times (f c) (g c))
 two_value Outer s t f g b = times (f (front s b)) (g (back s b))
 two_value Cross s t f g b = cross_value f g b
-
--- the indices that an operator sums: in a product those of both operands
-abbrev pub summed : Op2 → List Free → List Free → List Free
-summed Product xs ys = repeated (xs ++ ys)
-summed _ xs ys = []

@@ -6,7 +6,8 @@ use Rattle.ufl_tree.specs.Typed.{Typed, number, identity, function, piece, one, 
 use Rattle.ufl_tree.specs.Indices.{Names, with_names, index_value, index_values, front, back, named, direction, repeated}
 use Rattle.ufl_tree.specs.Places.{Table, function_place, piece_place}
 use Rattle.ufl_meaning.specs.Environment.{Environment, parameter_number, raised}
-use Rattle.ufl_meaning.specs.Operators.{along, sum_names, at_place, identity_value, one_value, two_value, summed}
+use Rattle.ufl_meaning.specs.Operators.{along, sum_names, at_place, identity_value, one_value, two_value}
+use Rattle.monos.specs.Summed.{summed}
 
 -- the first number chooses an item
 abbrev pub chosen_value : (ℕ → List ℕ → Polynomial) → List ℕ → Polynomial

@@ -3,16 +3,8 @@
 //! Each function takes nothing, does nothing and answers nothing: its contract is the law.
 
 ghost use Rattle.std.specs.Prelude.{ℕ, List};
-ghost use Rattle.ufl_tree.specs.declared.function.Role.{Role};
-ghost use Rattle.ufl_tree.specs.FormTerm.{FormTerm};
-ghost use Rattle.ufl_tree.specs.Indices.{Names};
-ghost use Rattle.ufl_tree.specs.Places.{Table};
-ghost use Rattle.ufl_tree.specs.Term.{Term};
-ghost use Rattle.ufl_tree.specs.Typed.{Typed};
-ghost use Rattle.ufl_meaning.specs.Density.{density as density_of};
-ghost use Rattle.ufl_meaning.specs.Environment.{Environment, HasOnlyUsed, HasParametersBelow, raised, turned, scaled, with_function, exchanged};
-ghost use Rattle.ufl_meaning.specs.Meaning.{meaning as meaning_of};
-ghost use Rattle.ufl_meaning.specs.Value.{value as value_of};
+ghost use Rattle.monos.specs.Prelude.{Role, FormTerm, Names, Table, Term, Typed};
+ghost use Rattle.ufl_meaning.specs.Prelude.{density as density_of, Environment, HasOnlyUsed, HasParametersBelow, raised, turned, scaled, with_function, exchanged, meaning as meaning_of, value as value_of};
 
 /// Each change of an environment keeps that no polynomial has a parameter that isn't in use, so derivatives within derivatives never share one.
 pub fn parameters()

@@ -1,6 +1,6 @@
 -- One turn of the machine in a statement.
 use Rattle.std.proofs.Common.{[], ◌∷◌, ◌++◌, ◌≡◌, ◌+◌, Result, Ok, Err, ◌<◌, ◌≤◌, true, false, Bool, length, take, drop, List, ℕ, Some, None, refl, sym, ap, subst, ◌∙◌, append_assoc, append-nil, arith, length-drop}
-use Rattle.slices.specs.declared.toks.Tok.{Tok}
+use Rattle.ufl_syntax.specs.declared.span.Span.{Span}
 use Rattle.ufl_syntax.specs.declared.class.Class.{Class}
 use Rattle.ufl_syntax.specs.declared.class.Class.TheVariants as k
 use Rattle.ufl_syntax.specs.declared.class.Lexeme.{Lexeme}
@@ -21,23 +21,23 @@ use Rattle.ufl_read.specs.Reads.{Fails, Reads, ReadsAll, ended_parts, assigned_p
 use Rattle.ufl_read.proofs.Turns.{take_at, along}
 
 -- names behind those before
-abbrev pub NamesGrow : List Lexeme → List Lexeme → List Tok → List Tok → Type 0
-NamesGrow start ts old before = (names : List Tok) (rest : List Lexeme) → LaterNames ts names rest → (all : List Tok) × LaterNames start all rest × (old ++ names ≡ before ++ all)
+abbrev pub NamesGrow : List Lexeme → List Lexeme → List Span → List Span → Type 0
+NamesGrow start ts old before = (names : List Span) (rest : List Lexeme) → LaterNames ts names rest → (all : List Span) × LaterNames start all rest × (old ++ names ≡ before ++ all)
 
-pub names_end : (start ts : List Lexeme) (old before : List Tok) → NamesGrow start ts old before → (x : List Tok) × LaterNames start x ts × (old ≡ before ++ x)
+pub names_end : (start ts : List Lexeme) (old before : List Span) → NamesGrow start ts old before → (x : List Span) × LaterNames start x ts × (old ≡ before ++ x)
 names_end start ts old before f = let r = f [] ts no_name in (r.0, r.1, sym (append-nil old) ∙ r.2)
 
-pub names_last : (start ts us : List Lexeme) (t : Lexeme) (b : Bool) (old new before : List Tok) → new ≡ old ++ t.tok ∷ [] → ts ≡ t ∷ us → t.class ≡ k.Name b → NamesGrow start ts old before
-    → (x : List Tok) × LaterNames start x us × (new ≡ before ++ x)
+pub names_last : (start ts us : List Lexeme) (t : Lexeme) (b : Bool) (old new before : List Span) → new ≡ old ++ t.span ∷ [] → ts ≡ t ∷ us → t.class ≡ k.Name b → NamesGrow start ts old before
+    → (x : List Span) × LaterNames start x us × (new ≡ before ++ x)
 names_last start ts us t b old new before h e i f =
-    let r = f (t.tok ∷ []) us (subst (λ l. LaterNames l (t.tok ∷ []) us) (sym e) (last_name i)) in
+    let r = f (t.span ∷ []) us (subst (λ l. LaterNames l (t.span ∷ []) us) (sym e) (last_name i)) in
     (r.0, r.1, h ∙ r.2)
 
-pub names_more : (start ts us vs : List Lexeme) (t c : Lexeme) (b : Bool) (old new before : List Tok) → new ≡ old ++ t.tok ∷ [] → ts ≡ t ∷ us → t.class ≡ k.Name b → us ≡ c ∷ vs → k.Comma ≡ c.class
+pub names_more : (start ts us vs : List Lexeme) (t c : Lexeme) (b : Bool) (old new before : List Span) → new ≡ old ++ t.span ∷ [] → ts ≡ t ∷ us → t.class ≡ k.Name b → us ≡ c ∷ vs → k.Comma ≡ c.class
     → NamesGrow start ts old before → NamesGrow start vs new before
 names_more start ts us vs t c b old new before h e i x j f = λ names rest l.
-    let r = f (t.tok ∷ names) rest (subst (λ y. LaterNames y (t.tok ∷ names) rest) (sym (e ∙ ap (λ y. t ∷ y) x)) (further_name i (sym j) l)) in
-    (r.0, r.1, ap (λ y. y ++ names) h ∙ append_assoc old (t.tok ∷ []) names ∙ r.2)
+    let r = f (t.span ∷ names) rest (subst (λ y. LaterNames y (t.span ∷ names) rest) (sym (e ∙ ap (λ y. t ∷ y) x)) (further_name i (sym j) l)) in
+    (r.0, r.1, ap (λ y. y ++ names) h ∙ append_assoc old (t.span ∷ []) names ∙ r.2)
 
 pub no_name_on : (j : Class) → ((b : Bool) → j ≡ k.Name b → ⊥) → part_on later_names j ≡ skips
 no_name_on (k.Name b) h = absurd (h b refl)
@@ -61,43 +61,43 @@ some_is a b h = cc
 
 -- one target, a sign, a value
 signed_by : (n : ℕ) (t u : Lexeme) (b : Bool) (us rest : List Lexeme) (op : AssignOp) (e : Syn) (st : Stmt) (j : Class) → u.class ≡ j → t.class ≡ k.Name b → IsSign j (Some op) → IsEnded n us e rest
-    → HasParts st t.tok.line (t.tok ∷ []) false op (Some e) → Statement n (t ∷ u ∷ us) st rest
+    → HasParts st t.line (t.span ∷ []) false op (Some e) → Statement n (t ∷ u ∷ us) st rest
 signed_by n t u b us rest op e st k.Assign y h x v p = assigns (bare_targets (one_name h)) y v.1 v.2 (p.0, p.1, p.2, p.3 ∙ some_is op o.Set x, p.4)
 signed_by n t u b us rest op e st k.AddAssign y h x v p = updated h (subst (λ j. updates j op) (sym y) (some_is op o.Plus x)) v.1 v.2 p
 signed_by n t u b us rest op e st k.SubAssign y h x v p = updated h (subst (λ j. updates j op) (sym y) (some_is op o.Minus x)) v.1 v.2 p
 signed_by n t u b us rest op e st _ y h x v p = cc
 
-pub signed_statement : (n : ℕ) (t u : Lexeme) (ts us rest : List Lexeme) (op : AssignOp) (e : Syn) (names : List Tok) {st : Stmt} → IsWord t → ts ≡ u ∷ us → IsSign u.class (Some op) → names ≡ t.tok ∷ [] → IsEnded n us e rest
-    → HasParts st t.tok.line names false op (Some e) → Statement n (t ∷ ts) st rest
+pub signed_statement : (n : ℕ) (t u : Lexeme) (ts us rest : List Lexeme) (op : AssignOp) (e : Syn) (names : List Span) {st : Stmt} → IsWord t → ts ≡ u ∷ us → IsSign u.class (Some op) → names ≡ t.span ∷ [] → IsEnded n us e rest
+    → HasParts st t.line names false op (Some e) → Statement n (t ∷ ts) st rest
 signed_statement n t u ts us rest op e names {st} w x i h v p =
     subst (λ l. Statement n (t ∷ l) st rest) (sym x) (signed_by n t u w.0 us rest op e st u.class refl w.1 i v (p.0, p.1 ∙ h, p.2, p.3, p.4))
 
-assigned_to : (n : ℕ) (ts us rest : List Lexeme) (names : List Tok) (unpack : Bool) (e : Syn) (st : Stmt) → Targets ts names unpack us → IsAssigned n us e rest → HasParts st (first_line ts) names unpack o.Set (Some e) → Statement n ts st rest
+assigned_to : (n : ℕ) (ts us rest : List Lexeme) (names : List Span) (unpack : Bool) (e : Syn) (st : Stmt) → Targets ts names unpack us → IsAssigned n us e rest → HasParts st (first_line ts) names unpack o.Set (Some e) → Statement n ts st rest
 assigned_to n ts us rest names unpack e st a v p = assigns (subst (λ l. Targets ts names unpack l) v.2 a) v.3 v.4.1 v.4.2 p
 
-pub several_statement : (n : ℕ) (t c : Lexeme) (ts us mid rest : List Lexeme) (before names all : List Tok) (e : Syn) {st : Stmt} → IsWord t → ts ≡ c ∷ us → k.Comma ≡ c.class → LaterNames us names mid
-    → all ≡ before ++ names → before ≡ t.tok ∷ [] → IsAssigned n mid e rest → HasParts st t.tok.line all true o.Set (Some e) → Statement n (t ∷ ts) st rest
+pub several_statement : (n : ℕ) (t c : Lexeme) (ts us mid rest : List Lexeme) (before names all : List Span) (e : Syn) {st : Stmt} → IsWord t → ts ≡ c ∷ us → k.Comma ≡ c.class → LaterNames us names mid
+    → all ≡ before ++ names → before ≡ t.span ∷ [] → IsAssigned n mid e rest → HasParts st t.line all true o.Set (Some e) → Statement n (t ∷ ts) st rest
 several_statement n t c ts us mid rest before names all e {st} w x i l h b v p =
-    let list : all ≡ t.tok ∷ names = h ∙ ap (λ y. y ++ names) b in
+    let list : all ≡ t.span ∷ names = h ∙ ap (λ y. y ++ names) b in
     subst (λ y. Statement n (t ∷ y) st rest) (sym x)
-    (assigned_to n (t ∷ c ∷ us) mid rest (t.tok ∷ names) true e st (bare_targets (several_names w.1 (sym i) l)) v (p.0, p.1 ∙ list, p.2, p.3, p.4))
+    (assigned_to n (t ∷ c ∷ us) mid rest (t.span ∷ names) true e st (bare_targets (several_names w.1 (sym i) l)) v (p.0, p.1 ∙ list, p.2, p.3, p.4))
 
-pub one_of_names : (t : Lexeme) (ts : List Lexeme) (names : List Tok) → IsWord t → names ≡ t.tok ∷ [] → Names (t ∷ ts) names false ts
+pub one_of_names : (t : Lexeme) (ts : List Lexeme) (names : List Span) → IsWord t → names ≡ t.span ∷ [] → Names (t ∷ ts) names false ts
 one_of_names t ts names w h = subst (λ l. Names (t ∷ ts) l false ts) (sym h) (one_name w.1)
 
-pub several_of_names : (t c : Lexeme) (ts us rest : List Lexeme) (before names all : List Tok) → IsWord t → ts ≡ c ∷ us → k.Comma ≡ c.class → LaterNames us names rest → all ≡ before ++ names → before ≡ t.tok ∷ []
+pub several_of_names : (t c : Lexeme) (ts us rest : List Lexeme) (before names all : List Span) → IsWord t → ts ≡ c ∷ us → k.Comma ≡ c.class → LaterNames us names rest → all ≡ before ++ names → before ≡ t.span ∷ []
     → Names (t ∷ ts) all true rest
 several_of_names t c ts us rest before names all w x i l h b =
-    let list : all ≡ t.tok ∷ names = h ∙ ap (λ y. y ++ names) b in
+    let list : all ≡ t.span ∷ names = h ∙ ap (λ y. y ++ names) b in
     subst (λ y. Names (t ∷ y) all true rest) (sym x) (subst (λ y. Names (t ∷ c ∷ us) y true rest) (sym list) (several_names w.1 (sym i) l))
 
-pub bracket_statement : (n : ℕ) (t u c : Lexeme) (ts us vs mid rest : List Lexeme) (names : List Tok) (unpack : Bool) (e : Syn) {st : Stmt} → t.class ≡ k.Open → ts ≡ u ∷ us → Names (u ∷ us) names unpack vs → vs ≡ c ∷ mid → c.class ≡ k.Close
-    → IsAssigned n mid e rest → HasParts st t.tok.line names unpack o.Set (Some e) → Statement n (t ∷ ts) st rest
+pub bracket_statement : (n : ℕ) (t u c : Lexeme) (ts us vs mid rest : List Lexeme) (names : List Span) (unpack : Bool) (e : Syn) {st : Stmt} → t.class ≡ k.Open → ts ≡ u ∷ us → Names (u ∷ us) names unpack vs → vs ≡ c ∷ mid → c.class ≡ k.Close
+    → IsAssigned n mid e rest → HasParts st t.line names unpack o.Set (Some e) → Statement n (t ∷ ts) st rest
 bracket_statement n t u c ts us vs mid rest names unpack e {st} i x a y z v p =
     subst (λ l. Statement n (t ∷ l) st rest) (sym x)
     (assigned_to n (t ∷ u ∷ us) mid rest names unpack e st (bracketed_targets i (subst (λ l. Names (u ∷ us) names unpack l) y a) z) v p)
 
-pub import_statement : (n : ℕ) (t : Lexeme) (ts us rest : List Lexeme) {st : Stmt} → t.class ≡ k.From → ts ≡ t ∷ us → IsImport us rest → HasParts st t.tok.line [] false o.ImportAll None → Statement n ts st rest
+pub import_statement : (n : ℕ) (t : Lexeme) (ts us rest : List Lexeme) {st : Stmt} → t.class ≡ k.From → ts ≡ t ∷ us → IsImport us rest → HasParts st t.line [] false o.ImportAll None → Statement n ts st rest
 import_statement n t ts us rest {st} h x i p =
     let list : ts ≡ t ∷ i.0 ∷ i.1 ∷ i.2 ∷ i.3 ∷ rest = x ∙ ap (λ l. t ∷ l) i.4 in
     subst (λ l. Statement n l st rest) (sym list) (imports h i.5 i.6 i.7 i.8 p)

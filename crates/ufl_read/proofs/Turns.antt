@@ -80,11 +80,11 @@ bracketed_at n m ts us vs rest t c e h o x v y z =
     subst (λ i. Atom i ts e rest) (sym h) (subst (λ l. Atom (suc m) l e rest) (sym x) (bracketed o (subst (λ l. Value m us e l) y v) z))
 
 pub list_at : (n m : ℕ) (ts us vs rest : List Lexeme) (t c : Lexeme) (none es items : List Syn) → n ≡ suc m → t.class ≡ k.OpenList → ts ≡ t ∷ us → Later m us es vs → vs ≡ c ∷ rest → c.class ≡ k.CloseList
-    → items ≡ none ++ es → none ≡ [] → Atom n ts (s.List t.tok items) rest
+    → items ≡ none ++ es → none ≡ [] → Atom n ts (s.List t.span items) rest
 list_at n m ts us vs rest t c none es items h o x v y z i w =
     let same_list : items ≡ es = i ∙ ap (λ l. l ++ es) w in
-    subst (λ l. Atom n ts (s.List t.tok l) rest) (sym same_list)
-    (subst (λ i. Atom i ts (s.List t.tok es) rest) (sym h) (subst (λ l. Atom (suc m) l (s.List t.tok es) rest) (sym x) (a_list o (subst (λ l. Later m us es l) y v) z)))
+    subst (λ l. Atom n ts (s.List t.span l) rest) (sym same_list)
+    (subst (λ i. Atom i ts (s.List t.span es) rest) (sym h) (subst (λ l. Atom (suc m) l (s.List t.span es) rest) (sym x) (a_list o (subst (λ l. Later m us es l) y v) z)))
 
 -- a chain that ends here
 pub sum_at : (n : ℕ) (ts mid rest : List Lexeme) (e all : Syn) (ns : List Next) → all ≡ chain e ns → Term n ts e mid
@@ -137,9 +137,9 @@ power_deep n j e h = ap (λ i. power_on n i) (sym h) ∙ ap (λ i. power_on i k.
 pub power_open : (n m : ℕ) (j : Class) → n ≡ suc m → k.Power ≡ j → part_on (a_power n) j ≡ takes (a_signed m ∷ [])
 power_open n m j e h = ap (λ i. power_on n i) (sym h) ∙ ap (λ i. power_on i k.Power) e
 
-pub signed_at : (n m : ℕ) (ts us rest : List Lexeme) (t : Lexeme) (e x : Syn) → n ≡ suc m → is_sign t.class ≡ true → ts ≡ t ∷ us → Signed m us e rest → x ≡ e → Signed n ts (s.Sign t.tok x) rest
+pub signed_at : (n m : ℕ) (ts us rest : List Lexeme) (t : Lexeme) (e x : Syn) → n ≡ suc m → is_sign t.class ≡ true → ts ≡ t ∷ us → Signed m us e rest → x ≡ e → Signed n ts (s.Sign t.span x) rest
 signed_at n m ts us rest t e x h o y a z =
-    subst (λ i. Signed i ts (s.Sign t.tok x) rest) (sym h) (subst (λ l. Signed (suc m) l (s.Sign t.tok x) rest) (sym y) (subst (λ v. Signed (suc m) (t ∷ us) (s.Sign t.tok v) rest) (sym z) (sign o a)))
+    subst (λ i. Signed i ts (s.Sign t.span x) rest) (sym h) (subst (λ l. Signed (suc m) l (s.Sign t.span x) rest) (sym y) (subst (λ v. Signed (suc m) (t ∷ us) (s.Sign t.span v) rest) (sym z) (sign o a)))
 
 pub power_at : (n m : ℕ) (ts mid us rest : List Lexeme) (op : Lexeme) (e b x : Syn) (ns ch : List Next) → n ≡ suc m → Postfix n ts e mid → mid ≡ op ∷ us → k.Power ≡ op.class → Signed m us x rest
     → b ≡ e → ch ≡ ns ++ next op x ∷ [] → ns ≡ [] → Signed n ts (s.Binary b ch) rest
@@ -206,10 +206,10 @@ args_more n start ts mid us c a old new h d y o f = λ as_ rest l.
     subst (λ v. Args n start v rest) (sym (ap (λ v. v ++ as_) h ∙ append_assoc old (a ∷ []) as_)) (f (a ∷ as_) rest (further_arg (subst (λ v. OneArg n ts a v) y d) (sym o) l))
 
 pub tuple_at : (n : ℕ) (ts mid us rest : List Lexeme) (c : Lexeme) (e : Syn) (none before items es : List Syn) → Sum n ts e mid → mid ≡ c ∷ us → k.Comma ≡ c.class → Later n us es rest
-    → items ≡ before ++ es → before ≡ none ++ e ∷ [] → none ≡ [] → Value n ts (s.Tuple c.tok items) rest
+    → items ≡ before ++ es → before ≡ none ++ e ∷ [] → none ≡ [] → Value n ts (s.Tuple c.span items) rest
 tuple_at n ts mid us rest c e none before items es a y o l h b z =
     let list : items ≡ e ∷ es = h ∙ ap (λ v. v ++ es) (b ∙ ap (λ v. v ++ e ∷ []) z) in
-    subst (λ v. Value n ts (s.Tuple c.tok v) rest) (sym list) (tuple (subst (λ v. Sum n ts e v) y a) (sym o) l)
+    subst (λ v. Value n ts (s.Tuple c.span v) rest) (sym list) (tuple (subst (λ v. Sum n ts e v) y a) (sym o) l)
 
 pub post_deep : (n : ℕ) (j : Class) → n ≡ 0 → j ≡ k.Open → part_on (a_post n) j ≡ deep
 post_deep n j e h = ap (λ i. post_on n i) h ∙ ap (λ i. post_on i k.Open) e
@@ -229,16 +229,16 @@ post_wrong n k.OpenList a b c = absurd (b refl)
 post_wrong n k.Dot a b c = absurd (c refl)
 post_wrong n _ a b c = refl
 
-pub call_at : (n m : ℕ) (ts us vs rest : List Lexeme) (t c : Lexeme) (as_ : List Arg) → n ≡ suc m → t.class ≡ k.Open → ts ≡ t ∷ us → Args m us as_ vs → vs ≡ c ∷ rest → k.Close ≡ c.class → OnePost n ts (p.Call t.tok as_) rest
+pub call_at : (n m : ℕ) (ts us vs rest : List Lexeme) (t c : Lexeme) (as_ : List Arg) → n ≡ suc m → t.class ≡ k.Open → ts ≡ t ∷ us → Args m us as_ vs → vs ≡ c ∷ rest → k.Close ≡ c.class → OnePost n ts (p.Call t.span as_) rest
 call_at n m ts us vs rest t c as_ h o x v y z =
-    subst (λ i. OnePost i ts (p.Call t.tok as_) rest) (sym h) (subst (λ l. OnePost (suc m) l (p.Call t.tok as_) rest) (sym x) (call o (subst (λ l. Args m us as_ l) y v) (sym z)))
+    subst (λ i. OnePost i ts (p.Call t.span as_) rest) (sym h) (subst (λ l. OnePost (suc m) l (p.Call t.span as_) rest) (sym x) (call o (subst (λ l. Args m us as_ l) y v) (sym z)))
 
-pub index_at : (n m : ℕ) (ts us vs rest : List Lexeme) (t c : Lexeme) (e b : Syn) → n ≡ suc m → t.class ≡ k.OpenList → ts ≡ t ∷ us → Value m us e vs → vs ≡ c ∷ rest → k.CloseList ≡ c.class → b ≡ e → OnePost n ts (p.Index t.tok b) rest
+pub index_at : (n m : ℕ) (ts us vs rest : List Lexeme) (t c : Lexeme) (e b : Syn) → n ≡ suc m → t.class ≡ k.OpenList → ts ≡ t ∷ us → Value m us e vs → vs ≡ c ∷ rest → k.CloseList ≡ c.class → b ≡ e → OnePost n ts (p.Index t.span b) rest
 index_at n m ts us vs rest t c e b h o x v y z w =
-    subst (λ i. OnePost i ts (p.Index t.tok b) rest) (sym h) (subst (λ l. OnePost (suc m) l (p.Index t.tok b) rest) (sym x) (subst (λ q. OnePost (suc m) (t ∷ us) (p.Index t.tok q) rest) (sym w) (index o (subst (λ l. Value m us e l) y v) (sym z))))
+    subst (λ i. OnePost i ts (p.Index t.span b) rest) (sym h) (subst (λ l. OnePost (suc m) l (p.Index t.span b) rest) (sym x) (subst (λ q. OnePost (suc m) (t ∷ us) (p.Index t.span q) rest) (sym w) (index o (subst (λ l. Value m us e l) y v) (sym z))))
 
-pub attr_at : (n : ℕ) (ts us rest : List Lexeme) (t c : Lexeme) (b : Bool) → t.class ≡ k.Dot → ts ≡ t ∷ us → us ≡ c ∷ rest → c.class ≡ k.Name b → OnePost n ts (p.Attr c.tok) rest
-attr_at n ts us rest t c b o x y z = subst (λ l. OnePost n l (p.Attr c.tok) rest) (sym (x ∙ ap (λ l. t ∷ l) y)) (attr o z)
+pub attr_at : (n : ℕ) (ts us rest : List Lexeme) (t c : Lexeme) (b : Bool) → t.class ≡ k.Dot → ts ≡ t ∷ us → us ≡ c ∷ rest → c.class ≡ k.Name b → OnePost n ts (p.Attr c.span) rest
+attr_at n ts us rest t c b o x y z = subst (λ l. OnePost n l (p.Attr c.span) rest) (sym (x ∙ ap (λ l. t ∷ l) y)) (attr o z)
 
 abbrev pub Keyed : List Lexeme → ℕ → Lexeme → Type 0
 Keyed all at name = (u : Lexeme) × (b : Bool) × (drop (at + 1) all ≡ u ∷ drop (at + 2) all) × (name.class ≡ k.Name b) × (u.class ≡ k.Assign)
@@ -256,8 +256,8 @@ keyed_at all at name u e h =
     let r = both_is name.class u.class h in
     (u, r.0, e ∙ ap (λ i. u ∷ drop i all) two, r.1, r.2)
 
-pub keyed_arg : (n : ℕ) (ts us vs rest : List Lexeme) (t u : Lexeme) (b : Bool) (e : Syn) → ts ≡ t ∷ us → us ≡ u ∷ vs → t.class ≡ k.Name b → u.class ≡ k.Assign → Sum n vs e rest → OneArg n ts (argument (Some t.tok) e) rest
-keyed_arg n ts us vs rest t u b e x y i j v = subst (λ l. OneArg n l (argument (Some t.tok) e) rest) (sym (x ∙ ap (λ l. t ∷ l) y)) (keyed i j v)
+pub keyed_arg : (n : ℕ) (ts us vs rest : List Lexeme) (t u : Lexeme) (b : Bool) (e : Syn) → ts ≡ t ∷ us → us ≡ u ∷ vs → t.class ≡ k.Name b → u.class ≡ k.Assign → Sum n vs e rest → OneArg n ts (argument (Some t.span) e) rest
+keyed_arg n ts us vs rest t u b e x y i j v = subst (λ l. OneArg n l (argument (Some t.span) e) rest) (sym (x ∙ ap (λ l. t ∷ l) y)) (keyed i j v)
 
 pub keyed_run : (n : ℕ) (stack : List Part) (ts us vs : List Lexeme) (t u : Lexeme) (b : Bool) → ts ≡ t ∷ us → us ≡ u ∷ vs → t.class ≡ k.Name b → u.class ≡ k.Assign → run (an_arg n ∷ stack) ts ≡ run (a_sum n ∷ stack) vs
 keyed_run n stack ts us vs t u b x y i j =

@@ -1,10 +1,11 @@
 -- The file as a whole
-use Rattle.std.proofs.Common.{[], ◌∷◌, ◌++◌, ◌≡◌, ◌<◌, ◌≤◌, ◌⊎◌, inl, inr, length, take, drop, List, ℕ, zero, suc, Option, Some, None, false, refl, sym, ap, subst, ◌∙◌, append_assoc, append-nil, arith}
+use Rattle.std.proofs.Common.{[], ◌∷◌, ◌++◌, ◌≡◌, ◌≤◌, ◌⊎◌, inl, inr, length, take, drop, List, ℕ, Option, Some, None, false, refl, sym, ap, subst, ◌∙◌, append_assoc, append-nil, arith}
 use Rattle.std.proofs.lemmas.List.{take-append-drop}
 use Rattle.slices.specs.declared.toks.Tok.{Tok}
 use Rattle.slices.specs.declared.toks.LexAt.{LexAt}
 use Rattle.slices.specs.Tokens.{token_of}
 use Rattle.slices.specs.FormTokens.{FormReader, form_next, finished, no_token, token, form_begins, Scan, no_more, lost, one_more}
+use Rattle.slices.specs.declared.form_toks.TheConstants.{FORM_LIMIT}
 use Rattle.slices.proofs.FormEnd.{EndsALine, ends_a_line}
 use Rattle.ufl_syntax.specs.declared.class.Lexeme.{Lexeme}
 use Rattle.ufl_syntax.specs.declared.tree.Stmt.{Stmt}
@@ -58,7 +59,7 @@ never_early ts (inr (front, end, x, i)) w =
     let d = closed_begins 64 (lexemes front) (lexeme_of end) (omega arith) (ap (λ j. class_by j end.text.now) i) v.0 in
     v.1 d.0 d.1
 
-unread : (text : List ℕ) (ts : List Tok) (fault : Fault) (e : Option LexAt) → length text ≤ 262144 → Scan (form_begins text) ts e → IsRefusal 64 (lexemes ts) fault → IsFormRefusal text (refusal_for (lexemes ts) fault e)
+unread : (text : List ℕ) (ts : List Tok) (fault : Fault) (e : Option LexAt) → length text ≤ FORM_LIMIT → Scan (form_begins text) ts e → IsRefusal 64 (lexemes ts) fault → IsFormRefusal text (refusal_for (lexemes ts) fault e)
 unread text ts f.Memory e h s w = inl refl
 unread text ts f.Short None h s w = absurd (never_early ts (ends_a_line (form_begins text) ts None refl s) w)
 unread text ts f.Short (Some e) h s w = inr (inr (h, r.no_token ts e s w.0))
@@ -67,12 +68,12 @@ unread text ts (f.Wrong at) e h s w =
 unread text ts (f.Deep at) e h s w =
     inr (inr (h, subst (λ l. IsUnread text (deep_by (take at (lexemes ts)) l)) (sym w.2) (r.too_deep (take at (lexemes ts)) w.0 w.1 s (split_at (lexemes ts) at w.0 w.1 w.2) w.3.0 w.3.1)))
 
-pub refused : (text : List ℕ) (ts : List Tok) (fault : Fault) (e : Option LexAt) (all : List Lexeme) → length text ≤ 262144 → Scan (form_begins text) ts e → all ≡ lexemes ts → IsRefusal 64 all fault
+pub refused : (text : List ℕ) (ts : List Tok) (fault : Fault) (e : Option LexAt) (all : List Lexeme) → length text ≤ FORM_LIMIT → Scan (form_begins text) ts e → all ≡ lexemes ts → IsRefusal 64 all fault
     → IsFormRefusal text (refusal_for all fault e)
 refused text ts fault e all h s i w = subst (λ l. IsFormRefusal text (refusal_for l fault e)) (sym i) (unread text ts fault e h s (subst (λ l. IsRefusal 64 l fault) i w))
 
 -- statements, and then a place where no token starts
-pub lost_after : (text : List ℕ) (ts : List Tok) (e : LexAt) (all : List Lexeme) (sts : List Stmt) → length text ≤ 262144 → Scan (form_begins text) ts (Some e) → all ≡ lexemes ts → File 64 all sts []
+pub lost_after : (text : List ℕ) (ts : List Tok) (e : LexAt) (all : List Lexeme) (sts : List Stmt) → length text ≤ FORM_LIMIT → Scan (form_begins text) ts (Some e) → all ≡ lexemes ts → File 64 all sts []
     → IsFormRefusal text (refusal_for all f.Short (Some e))
 lost_after text ts e all sts h s i d =
     subst (λ l. IsFormRefusal text (refusal_for l f.Short (Some e))) (sym i)

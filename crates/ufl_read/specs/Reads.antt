@@ -25,13 +25,18 @@ Moves true a b = a ≤ b
 Moves false a b = a < b
 
 -- From place at on this part is read and what is left begins at the new place, or it can't be.
-abbrev pub Reads : {A : Type 0} → (A → List Lexeme → List Lexeme → Type 0) → (A → ℕ) → Part → List Lexeme → ℕ → Result A Fault → Type 0
-Reads IsPart place part all at (Ok x) = Moves (may_be_empty part) at (place x) × IsPart x (drop at all) (drop (place x) all) × ((stack : List Part) → run (part ∷ stack) (drop at all) ≡ run stack (drop (place x) all))
+abbrev pub Reads : {A : Type 0} → (A → List Lexeme → List Lexeme → Type 0) → (A → ℕ) → Part → List Lexeme → ℕ
+    → Result A Fault → Type 0
+Reads IsPart place part all at (Ok x) = Moves (may_be_empty part) at (place x)
+    × IsPart x (drop at all) (drop (place x) all)
+    × ((stack : List Part) → run (part ∷ stack) (drop at all) ≡ run stack (drop (place x) all))
 Reads IsPart place part all at (Err e) = (stack : List Part) → Fails all e (run (part ∷ stack) (drop at all))
 
 -- the same for several parts, one after the other, of which one can't be empty
-abbrev pub ReadsAll : {A : Type 0} → (A → List Lexeme → List Lexeme → Type 0) → (A → ℕ) → List Part → List Lexeme → ℕ → Result A Fault → Type 0
-ReadsAll AreParts place parts all at (Ok x) = (at < place x) × AreParts x (drop at all) (drop (place x) all) × ((stack : List Part) → run (parts ++ stack) (drop at all) ≡ run stack (drop (place x) all))
+abbrev pub ReadsAll : {A : Type 0} → (A → List Lexeme → List Lexeme → Type 0) → (A → ℕ) → List Part → List Lexeme → ℕ
+    → Result A Fault → Type 0
+ReadsAll AreParts place parts all at (Ok x) = (at < place x) × AreParts x (drop at all) (drop (place x) all)
+    × ((stack : List Part) → run (parts ++ stack) (drop at all) ≡ run stack (drop (place x) all))
 ReadsAll AreParts place parts all at (Err e) = (stack : List Part) → Fails all e (run (parts ++ stack) (drop at all))
 
 abbrev pub Room : ℕ → ℕ → Result ℕ Fault → Type 0
@@ -70,7 +75,8 @@ ended_parts n = a_value n ∷ token k.End ∷ []
 
 -- an `=`, a value and the end of its line
 abbrev pub IsAssigned : ℕ → List Lexeme → Syn → List Lexeme → Type 0
-IsAssigned n ts e rest = (eq : Lexeme) × (us : List Lexeme) × (ts ≡ eq ∷ us) × (eq.class ≡ k.Assign) × IsEnded n us e rest
+IsAssigned n ts e rest = (eq : Lexeme) × (us : List Lexeme) × (ts ≡ eq ∷ us) × (eq.class ≡ k.Assign)
+    × IsEnded n us e rest
 
 abbrev pub assigned_parts : ℕ → List Part
 assigned_parts n = token k.Assign ∷ a_value n ∷ token k.End ∷ []

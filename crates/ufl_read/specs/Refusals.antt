@@ -3,7 +3,7 @@ use Rattle.std.specs.Prelude.{◌≡◌, ◌<◌, ◌≤◌, ◌⊎◌, ℕ, Boo
 use Rattle.slices.specs.declared.toks.Tok.{Tok}
 use Rattle.slices.specs.declared.toks.LexAt.{LexAt}
 use Rattle.slices.specs.FormTokens.{Scan, form_begins}
-use Rattle.slices.specs.Tokens.{token_of}
+use Rattle.slices.specs.declared.form_toks.TheConstants.{FORM_LIMIT}
 use Rattle.ufl_syntax.specs.declared.class.Class.{Class}
 use Rattle.ufl_syntax.specs.declared.class.Class.TheVariants as k
 use Rattle.ufl_syntax.specs.declared.class.Lexeme.{Lexeme}
@@ -11,6 +11,7 @@ use Rattle.ufl_syntax.specs.declared.tree.Stmt.{Stmt}
 use Rattle.ufl_syntax.specs.Grammar.{File}
 use Rattle.ufl_syntax.specs.Classes.{lexemes}
 use Rattle.ufl_syntax.specs.Refusal.{Begins, IsRefused, IsWrong, IsTooDeep}
+use Rattle.ufl_read.specs.declared.statements.TheConstants.{DEPTH_LIMIT}
 use Rattle.ufl_read.specs.declared.tokens.Fault.{Fault}
 use Rattle.ufl_read.specs.declared.tokens.Fault.TheVariants as f
 use Rattle.ufl_read.specs.declared.refusal.FormKind.{FormKind}
@@ -47,9 +48,10 @@ line_started line _ own = Some (line_or line own)
 
 abbrev pub started : Option ℕ → List Lexeme → Option ℕ
 started line [] = line
-started line (t ∷ ts) = started (line_started line t.class t.tok.line) ts
+started line (t ∷ ts) = started (line_started line t.class t.line) ts
 
--- The line on which the statement behind these tokens begins: that of the first token behind the last end of a line, and its own where there is none.
+-- The line on which the statement behind these tokens begins: that of the first token behind the last end of a line,
+-- and its own where there is none.
 unfoldable pub statement_line : List Lexeme → ℕ → ℕ
 statement_line front own = line_or (started None front) own
 
@@ -67,32 +69,36 @@ is_foreign _ = false
 abbrev pub wrong_at : List Lexeme → Lexeme → FormRefusal
 wrong_at front bad =
     if is_foreign bad.class
-    then record { kind = r.Unsupported; line = statement_line front bad.tok.line; from = bad.tok.from; len = length bad.tok.text.now }
-    else wordless r.Syntax (statement_line front bad.tok.line)
+    then record { kind = r.Unsupported; line = statement_line front bad.line; from = bad.span.from; len = bad.span.len }
+    else wordless r.Syntax (statement_line front bad.line)
 
 abbrev pub IsFile : List ℕ → List Stmt → Type 0
-IsFile text sts = (length text ≤ 262144) × (ts : List Tok) × Scan (form_begins text) ts None × File 64 (lexemes ts) sts []
+IsFile text sts = (length text ≤ FORM_LIMIT) × (ts : List Tok) × Scan (form_begins text) ts None
+    × File DEPTH_LIMIT (lexemes ts) sts []
 
--- Why a file that isn't too long is refused, wherever memory lasts. The tokens of a whole file never end too early, since the last of them ends a line:
+-- Why a file that isn't too long is refused, wherever memory lasts. The tokens of a whole file never end too early,
+-- since the last of them ends a line:
 -- where a bracket is open or a statement lacks its rest, that last token is the refused one.
 pub data IsUnread : List ℕ → FormRefusal → Type 0 where
   -- no token starts behind these, which can be gone on with
-  no_token : {text : List ℕ} (ts : List Tok) (e : LexAt) → Scan (form_begins text) ts (Some e) → Begins 64 (lexemes ts) → IsUnread text (wordless r.Lex (statement_line (lexemes ts) e.line))
-  wrong_token : {text : List ℕ} {ts : List Tok} {e : Option LexAt} (front : List Lexeme) (bad : Lexeme) (after : List Lexeme)
-      → Scan (form_begins text) ts e → lexemes ts ≡ front ++ bad ∷ after → IsRefused 64 front bad → IsWrong 64 front bad → IsUnread text (wrong_at front bad)
-  too_deep : {text : List ℕ} {ts : List Tok} {e : Option LexAt} (front : List Lexeme) (bad : Lexeme) (after : List Lexeme)
-      → Scan (form_begins text) ts e → lexemes ts ≡ front ++ bad ∷ after → IsRefused 64 front bad → IsTooDeep 64 front bad → IsUnread text (wordless r.Deep (statement_line front bad.tok.line))
+  no_token : {text : List ℕ} (ts : List Tok) (e : LexAt) → Scan (form_begins text) ts (Some e)
+      → Begins DEPTH_LIMIT (lexemes ts) → IsUnread text (wordless r.Lex (statement_line (lexemes ts) e.line))
+  wrong_token : {text : List ℕ} {ts : List Tok}
+      {e : Option LexAt} (front : List Lexeme) (bad : Lexeme) (after : List Lexeme)
+      → Scan (form_begins text) ts e → lexemes ts ≡ front ++ bad ∷ after → IsRefused DEPTH_LIMIT front bad
+      → IsWrong DEPTH_LIMIT front bad → IsUnread text (wrong_at front bad)
+  too_deep : {text : List ℕ} {ts : List Tok}
+      {e : Option LexAt} (front : List Lexeme) (bad : Lexeme) (after : List Lexeme)
+      → Scan (form_begins text) ts e → lexemes ts ≡ front ++ bad ∷ after → IsRefused DEPTH_LIMIT front bad
+      → IsTooDeep DEPTH_LIMIT front bad → IsUnread text (wordless r.Deep (statement_line front bad.line))
 
 -- why a file is refused, wherever memory lasts
 abbrev pub IsRefusedFile : List ℕ → FormRefusal → Type 0
-IsRefusedFile text e = ((262144 < length text) × (e ≡ wordless r.TooLong 0)) ⊎ ((length text ≤ 262144) × IsUnread text e)
+IsRefusedFile text e = ((FORM_LIMIT < length text) × (e ≡ wordless r.TooLong 0))
+    ⊎ ((length text ≤ FORM_LIMIT) × IsUnread text e)
 
 abbrev pub IsFormRefusal : List ℕ → FormRefusal → Type 0
 IsFormRefusal text e = (e ≡ wordless r.Memory 0) ⊎ IsRefusedFile text e
-
--- the same token, wherever its text lies in memory
-abbrev pub SameToken : Tok → Tok → Type 0
-SameToken t u = token_of t ≡ token_of u
 
 -- the same, from what the reader of tokens says
 abbrev pub wrong_by : List Lexeme → List Lexeme → FormRefusal
@@ -101,7 +107,7 @@ wrong_by front (bad ∷ after) = wrong_at front bad
 
 abbrev pub deep_by : List Lexeme → List Lexeme → FormRefusal
 deep_by front [] = wordless r.Deep 0
-deep_by front (bad ∷ after) = wordless r.Deep (statement_line front bad.tok.line)
+deep_by front (bad ∷ after) = wordless r.Deep (statement_line front bad.line)
 
 abbrev pub refusal_for : List Lexeme → Fault → Option LexAt → FormRefusal
 refusal_for ts f.Memory e = wordless r.Memory 0

@@ -9,19 +9,13 @@ ghost use Rattle.ufl_read.specs.Refusals.{IsFile, IsFormRefusal};
 use crate::refusal::{FormKind, FormRefusal, refusal_of};
 use crate::statements::read_statements;
 use crate::tokens::Fault;
-use slices::{FormToks, LexAt};
+use slices::{FORM_LIMIT, FormToks, LexAt};
 use sqlite_items::Items;
 use std::alloc::{AllocError, Global};
 use ufl_syntax::{Lexeme, Stmt};
 
-/// How many bytes a form file may have.
-pub const LIMIT: usize = 262_144;
-
 // All tokens with their classes, and the place where no token starts, if there is one.
-fn read_tokens<'a>(
-    alloc: Global,
-    text: &'a [u8],
-) -> Result<(Items<Lexeme<'a>>, Option<LexAt>), AllocError>
+fn read_tokens(alloc: Global, text: &[u8]) -> Result<(Items<Lexeme>, Option<LexAt>), AllocError>
     requires { length text.now < 2 ^ 32 }
     ensures { IfOk result (λ r. (ts : List Tok) × Scan (form_begins text.now) ts r.1 × (r.0 ≡ lexemes ts)) }
 {
@@ -41,13 +35,14 @@ fn read_tokens<'a>(
 
 /// The statements of a form file.
 ///
-/// The refusal is `TooLong`, or that of the first token with which no list of statements begins; `Lex` where no token starts behind
+/// The refusal is `TooLong`, or that of the first token with which no list of statements begins; `Lex` where no token
+/// starts behind
 /// tokens that can be gone on with.
-pub fn read_file<'a>(alloc: Global, text: &'a [u8]) -> Result<Items<Stmt<'a>>, FormRefusal>
+pub fn read_file(alloc: Global, text: &[u8]) -> Result<Items<Stmt>, FormRefusal>
     ensures found { IfOk result (λ sts. IsFile text.now sts) }
     ensures refused { IfErr result (λ e. IsFormRefusal text.now e) }
 {
-    if text.len() > LIMIT {
+    if text.len() > FORM_LIMIT as usize {
         return Err(FormRefusal::new(FormKind::TooLong, 0));
     }
     let (lexemes, lost) = read_tokens(alloc, text)?;

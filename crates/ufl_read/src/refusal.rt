@@ -6,7 +6,7 @@ ghost use Rattle.ufl_read.specs.Refusals.{kind_number, line_or, line_started, st
 use crate::tokens::{Fault, peek};
 use slices::LexAt;
 use std::alloc::AllocError;
-use ufl_syntax::{Class, Lexeme};
+use ufl_syntax::{Class, Lexeme, Span};
 
 /// What is wrong with a form file. Reading gives the first five, and `Memory`; the others are of its meaning.
 #[derive(Clone, Copy, Debug, PartialEq, Eq)]
@@ -35,7 +35,8 @@ pub enum FormKind {
 }
 
 impl FormKind {
-    /// The number that stands before its name in messages, from 1 to 15; none for `Memory`, which is no fault of the file.
+    /// The number that stands before its name in messages, from 1 to 15; none for `Memory`, which is no fault of the
+    /// file.
     pub fn number(self) -> Option<u8>
         ensures { result ≡ kind_number self }
     {
@@ -60,7 +61,8 @@ impl FormKind {
     }
 }
 
-/// Why a form file is refused: the line on which the statement begins, counted from 1, or 0 where no statement is refused; and the
+/// Why a form file is refused: the line on which the statement begins, counted from 1, or 0 where no statement is
+/// refused; and the
 /// refused word, by its place in the file and its length in bytes, both 0 where there is none.
 #[derive(Clone, Copy, Debug, PartialEq, Eq)]
 pub struct FormRefusal {
@@ -95,18 +97,18 @@ impl From<AllocError> for FormRefusal {
 }
 
 // The line on which the statement begins, behind one more token.
-fn after_token(line: Option<u32>, token: Lexeme<'_>) -> Option<u32>
-    ensures { result ≡ line_started line token.entry.class token.entry.tok.line }
+fn after_token(line: Option<u32>, token: Lexeme) -> Option<u32>
+    ensures { result ≡ line_started line token.class token.line }
 {
     match (token.class, line) {
         (Class::End, _) => None,
         (_, Some(line)) => Some(line),
-        (_, None) => Some(token.tok.line),
+        (_, None) => Some(token.line),
     }
 }
 
 // The line on which the statement behind these tokens begins: its own, where it has no token among them.
-fn statement_line(tokens: &[Lexeme<'_>], own: u32) -> u32
+fn statement_line(tokens: &[Lexeme], own: u32) -> u32
     ensures { result ≡ line_of_statement tokens.now own }
 {
     let mut line = None;
@@ -133,25 +135,26 @@ fn is_foreign(class: Class) -> bool
 }
 
 // The refusal of a token that can't stand behind these.
-fn wrong(front: &[Lexeme<'_>], bad: Lexeme<'_>) -> FormRefusal
-    ensures { result ≡ wrong_at front.now bad.entry }
+fn wrong(front: &[Lexeme], bad: Lexeme) -> FormRefusal
+    ensures { result ≡ wrong_at front.now bad }
 {
-    let line = statement_line(front, bad.tok.line);
+    let line = statement_line(front, bad.line);
     if is_foreign(bad.class) {
-        let tok = bad.tok;
+        let Span { from, len } = bad.span;
         FormRefusal {
             kind: FormKind::Unsupported,
             line,
-            from: tok.from,
-            len: tok.text.len() as u32,
+            from,
+            len,
         }
     } else {
         FormRefusal::new(FormKind::Syntax, line)
     }
 }
 
-// The refusal of tokens with a fault, where no token starts there behind them. The tokens of a whole file never end too early.
-pub fn refusal_of(tokens: &[Lexeme<'_>], fault: Fault, lost: Option<LexAt>) -> FormRefusal
+// The refusal of tokens with a fault, where no token starts there behind them. The tokens of a whole file never end
+// too early.
+pub fn refusal_of(tokens: &[Lexeme], fault: Fault, lost: Option<LexAt>) -> FormRefusal
     ensures { result ≡ refusal_for tokens.now fault lost }
 {
     match fault {
@@ -166,7 +169,7 @@ pub fn refusal_of(tokens: &[Lexeme<'_>], fault: Fault, lost: Option<LexAt>) -> F
         },
         Fault::Deep(at) => match peek(tokens, at) {
             Some(bad) => {
-                let line = statement_line(&tokens[..at], bad.tok.line);
+                let line = statement_line(&tokens[..at], bad.line);
                 FormRefusal::new(FormKind::Deep, line)
             }
             None => FormRefusal::new(FormKind::Deep, 0),

@@ -4,26 +4,21 @@ ghost use Rattle.std.specs.Prelude.{[], ◌∷◌, ◌++◌, ◌≡◌, List, If
 ghost use Rattle.ufl_syntax.specs.Grammar.{LaterNames, Names, Statement, File};
 ghost use Rattle.ufl_syntax.specs.Machine.{a_statement, after_first, after_target, later_names};
 ghost use Rattle.ufl_syntax.specs.declared.tree.Stmt.{Stmt};
-ghost use Rattle.slices.specs.declared.toks.Tok.{Tok};
+ghost use Rattle.ufl_syntax.specs.declared.span.Span.{Span};
 ghost use Rattle.ufl_read.specs.Reads.{Reads, ReadsAll, IsEnded, IsAssigned, IsImport, IsWord, IsSign, ended_parts, assigned_parts, import_parts, bracket_parts, IsRefusal};
 
+use crate::lists::add;
 use crate::tokens::{Fault, expect, expect_name, peek, same};
 use crate::values::value;
-use slices::Tok;
 use sqlite_items::Items;
 use std::alloc::{AllocError, Global};
-use ufl_syntax::{AssignOp, Class, Lexeme, Stmt, Syn};
+use ufl_syntax::{AssignOp, Class, Lexeme, Span, Stmt, Syn};
 
-// How many brackets, signs and `**` may be open at one token.
-const DEPTH: u32 = 64;
+/// How many brackets, signs and `**` may be open at one token.
+pub const DEPTH_LIMIT: u32 = 64;
 
 // A value and the end of its line.
-fn ended<'a>(
-    alloc: Global,
-    tokens: &[Lexeme<'a>],
-    at: usize,
-    room: u32,
-) -> Result<(Syn<'a>, usize), Fault>
+fn ended(alloc: Global, tokens: &[Lexeme], at: usize, room: u32) -> Result<(Syn, usize), Fault>
     ensures { ReadsAll (λ r ts rest. IsEnded room ts r.0 rest) (λ r. r.1) (ended_parts room) tokens.now at result }
 {
     let (all, past) = value(alloc, tokens, at, room)?;
@@ -32,12 +27,7 @@ fn ended<'a>(
 }
 
 // A `=`, a value and the end of its line.
-fn assigned<'a>(
-    alloc: Global,
-    tokens: &[Lexeme<'a>],
-    at: usize,
-    room: u32,
-) -> Result<(Syn<'a>, usize), Fault>
+fn assigned(alloc: Global, tokens: &[Lexeme], at: usize, room: u32) -> Result<(Syn, usize), Fault>
     ensures { ReadsAll (λ r ts rest. IsAssigned room ts r.0 rest) (λ r. r.1) (assigned_parts room) tokens.now at result }
 {
     let (_sign, past) = expect(tokens, at, Class::Assign)?;
@@ -45,12 +35,13 @@ fn assigned<'a>(
 }
 
 // The names that may stand after a comma, behind those before.
-fn later_targets<'a>(
-    tokens: &[Lexeme<'a>],
+fn later_targets(
+    tokens: &[Lexeme],
     from: usize,
-    before: Items<Tok<'a>>,
-) -> Result<(Items<Tok<'a>>, usize), Fault>
-    ensures { Reads (λ r ts rest. (names : List Tok) × LaterNames ts names rest × (r.0 ≡ before.entry ++ names)) (λ r. r.1) later_names tokens.now from result }
+    before: Items<Span>,
+) -> Result<(Items<Span>, usize), Fault>
+    ensures { Reads (λ r ts rest. (names : List Span) × LaterNames ts names rest
+        × (r.0 ≡ before ++ names)) (λ r. r.1) later_names tokens.now from result }
 {
     let mut names = before;
     let mut at = from;
@@ -61,7 +52,7 @@ fn later_targets<'a>(
         let Class::Name(_) = name.class else {
             return Ok((names, at));
         };
-        names.push(name.tok)?;
+        names.push(name.span)?;
         at += 1;
         let Some(comma) = peek(tokens, at) else {
             return Ok((names, at));
@@ -73,11 +64,11 @@ fn later_targets<'a>(
     }
 }
 
-fn one_target<'a>(alloc: Global, name: Tok<'a>) -> Result<Items<Tok<'a>>, AllocError>
-    ensures { IfOk result (λ names. names ≡ name.entry ∷ []) }
+fn one_target(alloc: Global, name: Span) -> Result<Items<Span>, AllocError>
+    ensures { IfOk result (λ names. names ≡ name ∷ []) }
 {
     let mut names = Items::new(alloc);
-    names.push(name)?;
+    add(alloc, &mut names, name)?;
     Ok(names)
 }
 
@@ -94,21 +85,21 @@ fn assign_op(class: Class) -> Option<AssignOp>
 }
 
 // What follows the first name of a statement.
-fn named<'a>(
+fn named(
     alloc: Global,
-    tokens: &[Lexeme<'a>],
-    first: Lexeme<'a>,
+    tokens: &[Lexeme],
+    first: Lexeme,
     at: usize,
     room: u32,
-) -> Result<(Stmt<'a>, usize), Fault>
+) -> Result<(Stmt, usize), Fault>
     requires { IsWord first }
-    ensures { Reads (λ r ts rest. Statement room (first.entry ∷ ts) r.0 rest) (λ r. r.1) (after_first room) tokens.now at result }
+    ensures { Reads (λ r ts rest. Statement room (first ∷ ts) r.0 rest) (λ r. r.1) (after_first room) tokens.now at result }
 {
     let Some(sign) = peek(tokens, at) else {
         return Err(Fault::Short);
     };
-    let line = first.tok.line;
-    let targets = one_target(alloc, first.tok)?;
+    let line = first.line;
+    let targets = one_target(alloc, first.span)?;
     if let Some(op) = assign_op(sign.class) {
         let (value, end) = ended(alloc, tokens, at + 1, room)?;
         let value = Some(value);
@@ -142,7 +133,7 @@ fn named<'a>(
 }
 
 // `ufl import *` and the end of the line.
-fn import_rest<'a>(tokens: &[Lexeme<'a>], at: usize) -> Result<usize, Fault>
+fn import_rest(tokens: &[Lexeme], at: usize) -> Result<usize, Fault>
     ensures { ReadsAll (λ r ts rest. IsImport ts rest) (λ r. r) import_parts tokens.now at result }
 {
     let (_ufl, past) = expect(tokens, at, Class::Name(true))?;
@@ -153,16 +144,16 @@ fn import_rest<'a>(tokens: &[Lexeme<'a>], at: usize) -> Result<usize, Fault>
 }
 
 // The names that begin with this one, and whether a comma follows it.
-fn target_list<'a>(
+fn target_list(
     alloc: Global,
-    tokens: &[Lexeme<'a>],
-    first: Lexeme<'a>,
+    tokens: &[Lexeme],
+    first: Lexeme,
     at: usize,
-) -> Result<(Items<Tok<'a>>, bool, usize), Fault>
+) -> Result<(Items<Span>, bool, usize), Fault>
     requires { IsWord first }
-    ensures { Reads (λ r ts rest. Names (first.entry ∷ ts) r.0 r.1 rest) (λ r. r.2) after_target tokens.now at result }
+    ensures { Reads (λ r ts rest. Names (first ∷ ts) r.0 r.1 rest) (λ r. r.2) after_target tokens.now at result }
 {
-    let targets = one_target(alloc, first.tok)?;
+    let targets = one_target(alloc, first.span)?;
     let Some(comma) = peek(tokens, at) else {
         return Ok((targets, false, at));
     };
@@ -174,21 +165,21 @@ fn target_list<'a>(
 }
 
 // What follows the bracket that begins a statement.
-fn bracketed<'a>(
+fn bracketed(
     alloc: Global,
-    tokens: &[Lexeme<'a>],
-    bracket: Lexeme<'a>,
+    tokens: &[Lexeme],
+    bracket: Lexeme,
     at: usize,
     room: u32,
-) -> Result<(Stmt<'a>, usize), Fault>
+) -> Result<(Stmt, usize), Fault>
     requires { bracket.class ≡ Class.Open }
-    ensures { ReadsAll (λ r ts rest. Statement room (bracket.entry ∷ ts) r.0 rest) (λ r. r.1) (bracket_parts room) tokens.now at result }
+    ensures { ReadsAll (λ r ts rest. Statement room (bracket ∷ ts) r.0 rest) (λ r. r.1) (bracket_parts room) tokens.now at result }
 {
     let (first, past_first) = expect_name(tokens, at, room)?;
     let (targets, unpack, past_names) = target_list(alloc, tokens, first, past_first)?;
     let (_close, past) = expect(tokens, past_names, Class::Close)?;
     let (value, end) = assigned(alloc, tokens, past, room)?;
-    let line = bracket.tok.line;
+    let line = bracket.line;
     let value = Some(value);
     Ok((
         Stmt {
@@ -203,12 +194,7 @@ fn bracketed<'a>(
 }
 
 // A statement, and the place after it.
-fn statement<'a>(
-    alloc: Global,
-    tokens: &[Lexeme<'a>],
-    at: usize,
-    room: u32,
-) -> Result<(Stmt<'a>, usize), Fault>
+fn statement(alloc: Global, tokens: &[Lexeme], at: usize, room: u32) -> Result<(Stmt, usize), Fault>
     ensures { Reads (λ r ts rest. Statement room ts r.0 rest) (λ r. r.1) (a_statement room) tokens.now at result }
 {
     let Some(first) = peek(tokens, at) else {
@@ -219,7 +205,7 @@ fn statement<'a>(
         Class::Open => bracketed(alloc, tokens, first, at + 1, room),
         Class::From => {
             let end = import_rest(tokens, at + 1)?;
-            let (line, targets) = (first.tok.line, Items::new(alloc));
+            let (line, targets) = (first.line, Items::new(alloc));
             Ok((
                 Stmt {
                     line,
@@ -237,11 +223,12 @@ fn statement<'a>(
 
 /// The statements that all the tokens are.
 ///
-/// The fault is at the first token such that no list of statements begins with the tokens up to it, or the tokens end too early.
-pub fn read_statements<'a>(alloc: Global, tokens: &[Lexeme<'a>]) -> Result<Items<Stmt<'a>>, Fault>
-    ensures found { IfOk result (λ sts. File DEPTH tokens.now sts []) }
-    ensures only { IfOk result (λ sts. (xs : List Stmt) → File DEPTH tokens.now xs [] → sts ≡ xs) }
-    ensures refused { IfErr result (λ f. IsRefusal DEPTH tokens.now f) }
+/// The fault is at the first token such that no list of statements begins with the tokens up to it, or the tokens end
+/// too early.
+pub fn read_statements(alloc: Global, tokens: &[Lexeme]) -> Result<Items<Stmt>, Fault>
+    ensures found { IfOk result (λ sts. File DEPTH_LIMIT tokens.now sts []) }
+    ensures only { IfOk result (λ sts. (xs : List Stmt) → File DEPTH_LIMIT tokens.now xs [] → sts ≡ xs) }
+    ensures refused { IfErr result (λ f. IsRefusal DEPTH_LIMIT tokens.now f) }
 {
     let mut all = Items::new(alloc);
     let mut at = 0;
@@ -249,7 +236,7 @@ pub fn read_statements<'a>(alloc: Global, tokens: &[Lexeme<'a>]) -> Result<Items
         if at >= tokens.len() {
             return Ok(all);
         }
-        let (one, end) = statement(alloc, tokens, at, DEPTH)?;
+        let (one, end) = statement(alloc, tokens, at, DEPTH_LIMIT)?;
         all.push(one)?;
         at = end;
     }

@@ -101,19 +101,17 @@ pub fn same(wanted: Class, class: Class) -> bool
     wanted == class
 }
 
-pub fn peek<'a>(tokens: &[Lexeme<'a>], at: usize) -> Option<Lexeme<'a>>
-    ensures { MatchOption result (drop at tokens.now ≡ []) (λ t. (drop at tokens.now ≡ t ∷ drop (at + 1) tokens.now) × (at < length tokens.now)) }
+pub fn peek(tokens: &[Lexeme], at: usize) -> Option<Lexeme>
+    ensures { MatchOption result (drop at tokens.now ≡ []) (λ t. (drop at tokens.now ≡ t ∷ drop (at + 1) tokens.now)
+        × (at < length tokens.now)) }
 {
     tokens.get(at).copied()
 }
 
 // A token of this class, and the place after it.
-pub fn expect<'a>(
-    tokens: &[Lexeme<'a>],
-    at: usize,
-    class: Class,
-) -> Result<(Lexeme<'a>, usize), Fault>
-    ensures { Reads (λ r ts rest. (ts ≡ r.0 ∷ rest) × (same_class class r.0.class ≡ true)) (λ r. r.1) (token class) tokens.now at result }
+pub fn expect(tokens: &[Lexeme], at: usize, class: Class) -> Result<(Lexeme, usize), Fault>
+    ensures { Reads (λ r ts rest. (ts ≡ r.0 ∷ rest)
+        × (same_class class r.0.class ≡ true)) (λ r. r.1) (token class) tokens.now at result }
 {
     let Some(first) = peek(tokens, at) else {
         return Err(Fault::Short);
@@ -142,11 +140,7 @@ fn unnamed(class: Class, room: u32, at: usize) -> Fault
 }
 
 // A name, and the place after it.
-pub fn expect_name<'a>(
-    tokens: &[Lexeme<'a>],
-    at: usize,
-    room: u32,
-) -> Result<(Lexeme<'a>, usize), Fault>
+pub fn expect_name(tokens: &[Lexeme], at: usize, room: u32) -> Result<(Lexeme, usize), Fault>
     ensures { Reads (λ r ts rest. (ts ≡ r.0 ∷ rest) × IsWord r.0) (λ r. r.1) (a_word room) tokens.now at result }
 {
     let Some(first) = peek(tokens, at) else {

@@ -8,6 +8,7 @@ ghost use Rattle.ufl_syntax.specs.Machine.{a_value, a_later, a_sum, a_term, a_si
 ghost use Rattle.ufl_syntax.specs.declared.tree.Syn.{Syn};
 ghost use Rattle.ufl_read.specs.Reads.{Reads, EndsTerm};
 
+use crate::lists::add;
 use crate::tokens::{
     Fault, deeper, ends_term, expect, expect_name, factors, follows, keyed, peek, same, signs,
     starts,
@@ -18,8 +19,8 @@ use ufl_syntax::{Arg, Class, Lexeme, Next, Post, Syn};
 
 // A chain of one part is that part.
 #[inline(always)]
-fn chained<'a>(alloc: Global, first: Syn<'a>, chain: Items<Next<'a>>) -> Result<Syn<'a>, AllocError>
-    ensures { IfOk result (λ e. e ≡ as_chain first.entry chain.entry) }
+fn chained(alloc: Global, first: Syn, chain: Items<Next>) -> Result<Syn, AllocError>
+    ensures { IfOk result (λ e. e ≡ as_chain first chain) }
 {
     if chain.is_empty() {
         return Ok(first);
@@ -28,8 +29,8 @@ fn chained<'a>(alloc: Global, first: Syn<'a>, chain: Items<Next<'a>>) -> Result<
 }
 
 // A value with what stands behind it. Behind a chain, which brackets may hold, the chain goes on.
-fn applied<'a>(alloc: Global, first: Syn<'a>, all: Items<Post<'a>>) -> Result<Syn<'a>, AllocError>
-    ensures { IfOk result (λ e. e ≡ as_applied first.entry all.entry) }
+fn applied(alloc: Global, first: Syn, all: Items<Post>) -> Result<Syn, AllocError>
+    ensures { IfOk result (λ e. e ≡ as_applied first all) }
 {
     if all.is_empty() {
         return Ok(first);
@@ -45,12 +46,7 @@ fn applied<'a>(alloc: Global, first: Syn<'a>, all: Items<Post<'a>>) -> Result<Sy
 }
 
 #[cycle(reader)]
-pub fn value<'a>(
-    alloc: Global,
-    tokens: &[Lexeme<'a>],
-    at: usize,
-    room: u32,
-) -> Result<(Syn<'a>, usize), Fault>
+pub fn value(alloc: Global, tokens: &[Lexeme], at: usize, room: u32) -> Result<(Syn, usize), Fault>
     ensures { Reads (λ r ts rest. Value room ts r.0 rest) (λ r. r.1) (a_value room) tokens.now at result }
 {
     let (first, past) = sum(alloc, tokens, at, room)?;
@@ -61,21 +57,22 @@ pub fn value<'a>(
         return Ok((first, past));
     }
     let mut before = Items::new(alloc);
-    before.push(first)?;
+    add(alloc, &mut before, first)?;
     let (items, end) = later(alloc, tokens, past + 1, room, before)?;
-    Ok((Syn::Tuple(comma.tok, items), end))
+    Ok((Syn::Tuple(comma.span, items), end))
 }
 
 // The items that may stand after a comma or in a list's brackets, behind those before.
 #[cycle(reader)]
-fn later<'a>(
+fn later(
     alloc: Global,
-    tokens: &[Lexeme<'a>],
+    tokens: &[Lexeme],
     from: usize,
     room: u32,
-    before: Items<Syn<'a>>,
-) -> Result<(Items<Syn<'a>>, usize), Fault>
-    ensures { Reads (λ r ts rest. (es : List Syn) × Later room ts es rest × (r.0 ≡ before.entry ++ es)) (λ r. r.1) (a_later room) tokens.now from result }
+    before: Items<Syn>,
+) -> Result<(Items<Syn>, usize), Fault>
+    ensures { Reads (λ r ts rest. (es : List Syn) × Later room ts es rest
+        × (r.0 ≡ before ++ es)) (λ r. r.1) (a_later room) tokens.now from result }
 {
     let mut items = before;
     let mut at = from;
@@ -87,7 +84,7 @@ fn later<'a>(
             return Ok((items, at));
         }
         let (item, past) = sum(alloc, tokens, at, room)?;
-        items.push(item)?;
+        add(alloc, &mut items, item)?;
         let Some(comma) = peek(tokens, past) else {
             return Ok((items, past));
         };
@@ -99,7 +96,7 @@ fn later<'a>(
 }
 
 // Whether no term before this place goes on there.
-fn is_end_of_term(tokens: &[Lexeme<'_>], at: usize) -> bool
+fn is_end_of_term(tokens: &[Lexeme], at: usize) -> bool
     ensures { result ≡ true → EndsTerm (drop at tokens.now) }
 {
     match peek(tokens, at) {
@@ -109,7 +106,7 @@ fn is_end_of_term(tokens: &[Lexeme<'_>], at: usize) -> bool
 }
 
 // The term that is one token.
-fn short_term<'a>(tokens: &[Lexeme<'a>], at: usize) -> Option<Syn<'a>>
+fn short_term(tokens: &[Lexeme], at: usize) -> Option<Syn>
     ensures within { IfSome result (λ e. at < length tokens.now) }
     ensures term { IfSome result (λ e. (room : ℕ) → Term room (drop at tokens.now) e (drop (at + 1) tokens.now)) }
     ensures ended { IfSome result (λ e. EndsTerm (drop (at + 1) tokens.now)) }
@@ -119,21 +116,16 @@ fn short_term<'a>(tokens: &[Lexeme<'a>], at: usize) -> Option<Syn<'a>>
         return None;
     }
     match first.class {
-        Class::Name(_) => Some(Syn::Name(first.tok)),
-        Class::Number => Some(Syn::Number(first.tok)),
-        Class::Text => Some(Syn::Text(first.tok)),
+        Class::Name(_) => Some(Syn::Name(first.span)),
+        Class::Number => Some(Syn::Number(first.span)),
+        Class::Text => Some(Syn::Text(first.span)),
         _ => None,
     }
 }
 
 // Most terms are one token; these are read without a call for each level below.
 #[cycle(reader)]
-fn term<'a>(
-    alloc: Global,
-    tokens: &[Lexeme<'a>],
-    at: usize,
-    room: u32,
-) -> Result<(Syn<'a>, usize), Fault>
+fn term(alloc: Global, tokens: &[Lexeme], at: usize, room: u32) -> Result<(Syn, usize), Fault>
     ensures { Reads (λ r ts rest. Term room ts r.0 rest) (λ r. r.1) (a_term room) tokens.now at result }
 {
     if let Some(short) = short_term(tokens, at) {
@@ -143,12 +135,7 @@ fn term<'a>(
 }
 
 #[cycle(reader)]
-fn sum<'a>(
-    alloc: Global,
-    tokens: &[Lexeme<'a>],
-    from: usize,
-    room: u32,
-) -> Result<(Syn<'a>, usize), Fault>
+fn sum(alloc: Global, tokens: &[Lexeme], from: usize, room: u32) -> Result<(Syn, usize), Fault>
     ensures { Reads (λ r ts rest. Sum room ts r.0 rest) (λ r. r.1) (a_sum room) tokens.now from result }
 {
     let (first, past) = term(alloc, tokens, from, room)?;
@@ -162,18 +149,18 @@ fn sum<'a>(
             return Ok((chained(alloc, first, chain)?, at));
         }
         let (right, end) = term(alloc, tokens, at + 1, room)?;
-        chain.push(Next { op: op.tok, right })?;
+        add(alloc, &mut chain, Next { op: op.span, right })?;
         at = end;
     }
 }
 
 #[cycle(reader)]
-fn long_term<'a>(
+fn long_term(
     alloc: Global,
-    tokens: &[Lexeme<'a>],
+    tokens: &[Lexeme],
     from: usize,
     room: u32,
-) -> Result<(Syn<'a>, usize), Fault>
+) -> Result<(Syn, usize), Fault>
     ensures { Reads (λ r ts rest. Term room ts r.0 rest) (λ r. r.1) (a_term room) tokens.now from result }
 {
     let (first, past) = signed(alloc, tokens, from, room)?;
@@ -187,19 +174,14 @@ fn long_term<'a>(
             return Ok((chained(alloc, first, chain)?, at));
         }
         let (right, end) = signed(alloc, tokens, at + 1, room)?;
-        chain.push(Next { op: op.tok, right })?;
+        add(alloc, &mut chain, Next { op: op.span, right })?;
         at = end;
     }
 }
 
 // A sign binds looser than `**` to its right, and tighter to its left.
 #[cycle(reader)]
-fn signed<'a>(
-    alloc: Global,
-    tokens: &[Lexeme<'a>],
-    at: usize,
-    room: u32,
-) -> Result<(Syn<'a>, usize), Fault>
+fn signed(alloc: Global, tokens: &[Lexeme], at: usize, room: u32) -> Result<(Syn, usize), Fault>
     ensures { Reads (λ r ts rest. Signed room ts r.0 rest) (λ r. r.1) (a_signed room) tokens.now at result }
 {
     let Some(first) = peek(tokens, at) else {
@@ -208,7 +190,7 @@ fn signed<'a>(
     if signs(first.class) {
         let inside = deeper(room, at)?;
         let (inner, end) = signed(alloc, tokens, at + 1, inside)?;
-        return Ok((Syn::Sign(first.tok, Boxed::new(alloc, inner)?), end));
+        return Ok((Syn::Sign(first.span, Boxed::new(alloc, inner)?), end));
     }
     let (base, past) = postfix(alloc, tokens, at, room)?;
     let Some(op) = peek(tokens, past) else {
@@ -220,17 +202,12 @@ fn signed<'a>(
     let inside = deeper(room, past)?;
     let (right, end) = signed(alloc, tokens, past + 1, inside)?;
     let mut chain = Items::new(alloc);
-    chain.push(Next { op: op.tok, right })?;
+    add(alloc, &mut chain, Next { op: op.span, right })?;
     Ok((Syn::Binary(Boxed::new(alloc, base)?, chain), end))
 }
 
 #[cycle(reader)]
-fn postfix<'a>(
-    alloc: Global,
-    tokens: &[Lexeme<'a>],
-    from: usize,
-    room: u32,
-) -> Result<(Syn<'a>, usize), Fault>
+fn postfix(alloc: Global, tokens: &[Lexeme], from: usize, room: u32) -> Result<(Syn, usize), Fault>
     ensures { Reads (λ r ts rest. Postfix room ts r.0 rest) (λ r. r.1) (a_postfix room) tokens.now from result }
 {
     let (first, past) = atom(alloc, tokens, from, room)?;
@@ -244,19 +221,14 @@ fn postfix<'a>(
             return Ok((applied(alloc, first, all)?, at));
         }
         let (one, end) = post(alloc, tokens, at, room)?;
-        all.push(one)?;
+        add(alloc, &mut all, one)?;
         at = end;
     }
 }
 
 #[cycle(reader)]
 #[inline(never)]
-fn post<'a>(
-    alloc: Global,
-    tokens: &[Lexeme<'a>],
-    at: usize,
-    room: u32,
-) -> Result<(Post<'a>, usize), Fault>
+fn post(alloc: Global, tokens: &[Lexeme], at: usize, room: u32) -> Result<(Post, usize), Fault>
     ensures { Reads (λ r ts rest. OnePost room ts r.0 rest) (λ r. r.1) (a_post room) tokens.now at result }
 {
     let Some(first) = peek(tokens, at) else {
@@ -267,29 +239,29 @@ fn post<'a>(
             let inside = deeper(room, at)?;
             let (given, past) = arguments(alloc, tokens, at + 1, inside)?;
             let (_close, end) = expect(tokens, past, Class::Close)?;
-            Ok((Post::Call(first.tok, given), end))
+            Ok((Post::Call(first.span, given), end))
         }
         Class::OpenList => {
             let inside = deeper(room, at)?;
             let (inner, past) = value(alloc, tokens, at + 1, inside)?;
             let (_close, end) = expect(tokens, past, Class::CloseList)?;
-            Ok((Post::Index(first.tok, Boxed::new(alloc, inner)?), end))
+            Ok((Post::Index(first.span, Boxed::new(alloc, inner)?), end))
         }
         Class::Dot => {
             let (name, end) = expect_name(tokens, at + 1, room)?;
-            Ok((Post::Attr(name.tok), end))
+            Ok((Post::Attr(name.span), end))
         }
         _ => Err(Fault::Wrong(at)),
     }
 }
 
 #[cycle(reader)]
-fn arguments<'a>(
+fn arguments(
     alloc: Global,
-    tokens: &[Lexeme<'a>],
+    tokens: &[Lexeme],
     from: usize,
     room: u32,
-) -> Result<(Items<Arg<'a>>, usize), Fault>
+) -> Result<(Items<Arg>, usize), Fault>
     ensures { Reads (λ r ts rest. Args room ts r.0 rest) (λ r. r.1) (args room) tokens.now from result }
 {
     let mut all = Items::new(alloc);
@@ -302,7 +274,7 @@ fn arguments<'a>(
             return Ok((all, at));
         }
         let (item, past) = argument(alloc, tokens, at, room)?;
-        all.push(item)?;
+        add(alloc, &mut all, item)?;
         let Some(comma) = peek(tokens, past) else {
             return Ok((all, past));
         };
@@ -315,12 +287,7 @@ fn arguments<'a>(
 
 // Its second token says whether it has a keyword.
 #[cycle(reader)]
-fn argument<'a>(
-    alloc: Global,
-    tokens: &[Lexeme<'a>],
-    at: usize,
-    room: u32,
-) -> Result<(Arg<'a>, usize), Fault>
+fn argument(alloc: Global, tokens: &[Lexeme], at: usize, room: u32) -> Result<(Arg, usize), Fault>
     ensures { Reads (λ r ts rest. OneArg room ts r.0 rest) (λ r. r.1) (an_arg room) tokens.now at result }
 {
     let Some(name) = peek(tokens, at) else {
@@ -332,7 +299,7 @@ fn argument<'a>(
     };
     if is_keyed {
         let (value, end) = sum(alloc, tokens, at + 2, room)?;
-        let name = Some(name.tok);
+        let name = Some(name.span);
         return Ok((Arg { name, value }, end));
     }
     let (value, end) = sum(alloc, tokens, at, room)?;
@@ -340,21 +307,16 @@ fn argument<'a>(
 }
 
 #[cycle(reader)]
-fn atom<'a>(
-    alloc: Global,
-    tokens: &[Lexeme<'a>],
-    at: usize,
-    room: u32,
-) -> Result<(Syn<'a>, usize), Fault>
+fn atom(alloc: Global, tokens: &[Lexeme], at: usize, room: u32) -> Result<(Syn, usize), Fault>
     ensures { Reads (λ r ts rest. Atom room ts r.0 rest) (λ r. r.1) (an_atom room) tokens.now at result }
 {
     let Some(first) = peek(tokens, at) else {
         return Err(Fault::Short);
     };
     match first.class {
-        Class::Name(_) => Ok((Syn::Name(first.tok), at + 1)),
-        Class::Number => Ok((Syn::Number(first.tok), at + 1)),
-        Class::Text => Ok((Syn::Text(first.tok), at + 1)),
+        Class::Name(_) => Ok((Syn::Name(first.span), at + 1)),
+        Class::Number => Ok((Syn::Number(first.span), at + 1)),
+        Class::Text => Ok((Syn::Text(first.span), at + 1)),
         Class::Open => {
             let inside = deeper(room, at)?;
             let (inner, past) = value(alloc, tokens, at + 1, inside)?;
@@ -366,7 +328,7 @@ fn atom<'a>(
             let before = Items::new(alloc);
             let (items, past) = later(alloc, tokens, at + 1, inside, before)?;
             let (_close, end) = expect(tokens, past, Class::CloseList)?;
-            Ok((Syn::List(first.tok, items), end))
+            Ok((Syn::List(first.span, items), end))
         }
         _ => Err(Fault::Wrong(at)),
     }

@@ -1,13 +1,13 @@
 -- A chain of calls, indices and attributes begins with no chain.
-use Rattle.std.proofs.Common.{[], ◌∷◌, ◌++◌, ◌≡◌, List, ℕ, Option, refl, sym, ap, subst, ◌∙◌, append_assoc, append-nil}
-use Rattle.slices.specs.declared.toks.Tok.{Tok}
+use Rattle.std.proofs.Common.{[], ◌∷◌, ◌++◌, ◌≡◌, List, ℕ, refl, sym, ap, ◌∙◌, append_assoc, append-nil}
+use Rattle.ufl_syntax.specs.declared.span.Span.{Span}
 use Rattle.ufl_syntax.specs.declared.class.Lexeme.{Lexeme}
 use Rattle.ufl_syntax.specs.declared.tree.Syn.{Syn, Syn-F, out-Syn, roll-Syn, roll-out-Syn}
 use Rattle.ufl_syntax.specs.declared.tree.Syn.TheVariants as s
 use Rattle.ufl_syntax.specs.declared.tree.Next.{Next}
 use Rattle.ufl_syntax.specs.declared.tree.Post.{Post}
 use Rattle.ufl_syntax.specs.declared.tree.Arg.{Arg}
-use Rattle.ufl_syntax.specs.Grammar.{base_by, posts_by, base_of, posts_of, applied, chain, Value, single, tuple, Sum, sum, Adds, Term, term, Muls, Signed, sign, plain, power, Postfix, postfix, Posts, Atom, a_name, a_number, a_text, bracketed, a_list}
+use Rattle.ufl_syntax.specs.Grammar.{base_by, posts_by, base_of, posts_of, applied, chain, Value, single, tuple, Sum, sum, Term, term, Signed, sign, plain, power, Postfix, postfix, Atom, a_name, a_number, a_text, bracketed, a_list}
 
 pub base_at : (e : Syn) (l : Syn-F Post Syn Arg Next) → out-Syn e ≡ l → base_of e ≡ base_by e l
 unfolding base_of
@@ -27,22 +27,22 @@ posts_chain b ps = posts_at (s.Postfix b ps) (Syn-F.Postfix b ps) (s.outs-Postfi
 abbrev pub Bare : Syn → Type 0
 Bare e = (base_of e ≡ e) × (posts_of e ≡ [])
 
-pub bare_name : (t : Tok) → Bare (s.Name t)
+pub bare_name : (t : Span) → Bare (s.Name t)
 bare_name t = (base_at (s.Name t) (Syn-F.Name t) (s.outs-Name t), posts_at (s.Name t) (Syn-F.Name t) (s.outs-Name t))
 
-pub bare_number : (t : Tok) → Bare (s.Number t)
+pub bare_number : (t : Span) → Bare (s.Number t)
 bare_number t = (base_at (s.Number t) (Syn-F.Number t) (s.outs-Number t), posts_at (s.Number t) (Syn-F.Number t) (s.outs-Number t))
 
-pub bare_text : (t : Tok) → Bare (s.Text t)
+pub bare_text : (t : Span) → Bare (s.Text t)
 bare_text t = (base_at (s.Text t) (Syn-F.Text t) (s.outs-Text t), posts_at (s.Text t) (Syn-F.Text t) (s.outs-Text t))
 
-pub bare_tuple : (t : Tok) (es : List Syn) → Bare (s.Tuple t es)
+pub bare_tuple : (t : Span) (es : List Syn) → Bare (s.Tuple t es)
 bare_tuple t es = (base_at (s.Tuple t es) (Syn-F.Tuple t es) (s.outs-Tuple t es), posts_at (s.Tuple t es) (Syn-F.Tuple t es) (s.outs-Tuple t es))
 
-pub bare_list : (t : Tok) (es : List Syn) → Bare (s.List t es)
+pub bare_list : (t : Span) (es : List Syn) → Bare (s.List t es)
 bare_list t es = (base_at (s.List t es) (Syn-F.List t es) (s.outs-List t es), posts_at (s.List t es) (Syn-F.List t es) (s.outs-List t es))
 
-pub bare_sign : (t : Tok) (e : Syn) → Bare (s.Sign t e)
+pub bare_sign : (t : Span) (e : Syn) → Bare (s.Sign t e)
 bare_sign t e = (base_at (s.Sign t e) (Syn-F.Sign t e) (s.outs-Sign t e), posts_at (s.Sign t e) (Syn-F.Sign t e) (s.outs-Sign t e))
 
 pub bare_binary : (e : Syn) (ns : List Next) → Bare (s.Binary e ns)
@@ -97,7 +97,7 @@ flat_applied e (p ∷ ps) h = ap posts_of (base_chain (base_of e) (posts_of e ++
 mutual
   pub flat_value : {n : ℕ} {ts : List Lexeme} {e : Syn} {rest : List Lexeme} → Value n ts e rest → Flat e
   flat_value (single d) = flat_sum d
-  flat_value (tuple {e = e} {comma = c} {es = es} d h l) = flat_bare _ (bare_tuple c.tok (e ∷ es))
+  flat_value (tuple {e = e} {comma = c} {es = es} d h l) = flat_bare _ (bare_tuple c.span (e ∷ es))
 
   pub flat_sum : {n : ℕ} {ts : List Lexeme} {e : Syn} {rest : List Lexeme} → Sum n ts e rest → Flat e
   flat_sum (sum {e = e} {ns = ns} a b) = flat_chain e ns (flat_term a)
@@ -106,7 +106,7 @@ mutual
   flat_term (term {e = e} {ns = ns} a b) = flat_chain e ns (flat_signed a)
 
   flat_signed : {n : ℕ} {ts : List Lexeme} {e : Syn} {rest : List Lexeme} → Signed n ts e rest → Flat e
-  flat_signed (sign {op = op} {e = e} h a) = flat_bare _ (bare_sign op.tok e)
+  flat_signed (sign {op = op} {e = e} h a) = flat_bare _ (bare_sign op.span e)
   flat_signed (plain a) = flat_postfix a
   flat_signed (power {e = e} a h b) = flat_bare _ (bare_binary e _)
 
@@ -114,8 +114,8 @@ mutual
   flat_postfix (postfix {e = e} {ps = ps} a b) = flat_applied e ps (flat_atom a)
 
   flat_atom : {n : ℕ} {ts : List Lexeme} {e : Syn} {rest : List Lexeme} → Atom n ts e rest → Flat e
-  flat_atom (a_name {t = t} h) = flat_bare _ (bare_name t.tok)
-  flat_atom (a_number {t = t} h) = flat_bare _ (bare_number t.tok)
-  flat_atom (a_text {t = t} h) = flat_bare _ (bare_text t.tok)
+  flat_atom (a_name {t = t} h) = flat_bare _ (bare_name t.span)
+  flat_atom (a_number {t = t} h) = flat_bare _ (bare_number t.span)
+  flat_atom (a_text {t = t} h) = flat_bare _ (bare_text t.span)
   flat_atom (bracketed h a i) = flat_value a
-  flat_atom (a_list {open_ = t} {es = es} h a i) = flat_bare _ (bare_list t.tok es)
+  flat_atom (a_list {open_ = t} {es = es} h a i) = flat_bare _ (bare_list t.span es)

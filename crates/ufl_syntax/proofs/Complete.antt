@@ -1,6 +1,6 @@
 -- The machine goes along with each derivation.
 use Rattle.std.proofs.Common.{[], ◌∷◌, ◌++◌, ◌≡◌, true, false, Bool, List, ℕ, zero, suc, refl, sym, ap, ◌∙◌}
-use Rattle.slices.specs.declared.toks.Tok.{Tok}
+use Rattle.ufl_syntax.specs.declared.span.Span.{Span}
 use Rattle.ufl_syntax.specs.declared.class.Class.{Class}
 use Rattle.ufl_syntax.specs.declared.class.Class.TheVariants as k
 use Rattle.ufl_syntax.specs.declared.class.Lexeme.{Lexeme}
@@ -564,7 +564,7 @@ mutual
       run_takes (an_atom (suc m)) stack t us (a_later m ∷ token k.CloseList ∷ []) (ap (atom_on (suc m)) h)
       ∙ c_later a (ap more i) (token k.CloseList ∷ stack) ∙ takes_token k.CloseList stack c rest i refl
 
-pub c_later_names : {ts : List Lexeme} {names : List Tok} {rest : List Lexeme} → LaterNames ts names rest → Ends more_names rest → (stack : List Part) → run (later_names ∷ stack) ts ≡ run stack rest
+pub c_later_names : {ts : List Lexeme} {names : List Span} {rest : List Lexeme} → LaterNames ts names rest → Ends more_names rest → (stack : List Part) → run (later_names ∷ stack) ts ≡ run stack rest
 c_later_names {rest = rest} no_name end stack = passes later_names more_names names_skip refl rest end stack
 c_later_names {rest = rest} (last_name {t = t} h) end stack =
     run_takes later_names stack t rest (after_target ∷ []) (ap names_on h) ∙ passes after_target more_names (target_skip later_names) refl rest end stack
@@ -572,7 +572,7 @@ c_later_names (further_name {t = t} {comma = comma} {mid = mid} h i l) end stack
     run_takes later_names stack t (comma ∷ mid) (after_target ∷ []) (ap names_on h)
     ∙ run_takes after_target stack comma mid (later_names ∷ []) (ap (comma_on later_names) i) ∙ c_later_names l end stack
 
-pub c_names : {ts : List Lexeme} {names : List Tok} {unpack : Bool} {rest : List Lexeme} → Names ts names unpack rest → Ends more_names rest → (n : ℕ) (stack : List Part)
+pub c_names : {ts : List Lexeme} {names : List Span} {unpack : Bool} {rest : List Lexeme} → Names ts names unpack rest → Ends more_names rest → (n : ℕ) (stack : List Part)
     → run (a_word n ∷ after_target ∷ stack) ts ≡ run stack rest
 c_names {rest = rest} (one_name {t = t} h) end n stack =
     run_takes (a_word n) (after_target ∷ stack) t rest [] (ap (word_on n) h) ∙ passes after_target more_names (target_skip later_names) refl rest end stack
@@ -581,7 +581,7 @@ c_names (several_names {t = t} {comma = comma} {mid = mid} h i l) end n stack =
     ∙ run_takes after_target stack comma mid (later_names ∷ []) (ap (comma_on later_names) i) ∙ c_later_names l end stack
 
 -- targets and the `=` after them
-pub c_targets : {ts : List Lexeme} {names : List Tok} {unpack : Bool} {eq : Lexeme} {us : List Lexeme} → Targets ts names unpack (eq ∷ us) → eq.class ≡ k.Assign → (n : ℕ) (stack : List Part)
+pub c_targets : {ts : List Lexeme} {names : List Span} {unpack : Bool} {eq : Lexeme} {us : List Lexeme} → Targets ts names unpack (eq ∷ us) → eq.class ≡ k.Assign → (n : ℕ) (stack : List Part)
     → run (a_statement n ∷ stack) ts ≡ run (a_value n ∷ token k.End ∷ stack) us
 c_targets {eq = eq} {us = us} (bare_targets (one_name {t = t} h)) e n stack =
     run_takes (a_statement n) stack t (eq ∷ us) (after_first n ∷ []) (ap (statement_on n) h)
@@ -619,11 +619,11 @@ c_statement {n = n} (updated {t = t} {sign = u} {op = op} {us = us} h x v e p) s
     run_takes (a_statement n) stack t (u ∷ us) (after_first n ∷ []) (ap (statement_on n) h)
     ∙ run_takes (after_first n) stack u us (a_value n ∷ token k.End ∷ []) (update_on n u.class op x) ∙ c_ended v e stack
 
-names_first : {ts : List Lexeme} {names : List Tok} {unpack : Bool} {rest : List Lexeme} → Names ts names unpack rest → Heads begins_statement true ts
+names_first : {ts : List Lexeme} {names : List Span} {unpack : Bool} {rest : List Lexeme} → Names ts names unpack rest → Heads begins_statement true ts
 names_first (one_name h) = ap begins_statement h
 names_first (several_names h i l) = ap begins_statement h
 
-targets_first : {ts : List Lexeme} {names : List Tok} {unpack : Bool} {rest : List Lexeme} → Targets ts names unpack rest → Heads begins_statement true ts
+targets_first : {ts : List Lexeme} {names : List Span} {unpack : Bool} {rest : List Lexeme} → Targets ts names unpack rest → Heads begins_statement true ts
 targets_first (bare_targets a) = names_first a
 targets_first (bracketed_targets h a i) = ap begins_statement h
 

@@ -10,4 +10,4 @@ pub mod Unique
 pub mod Statements
 pub mod Chains
 pub mod Whole
-pub mod AlikeLaws
+pub mod SpanLaws

@@ -1,6 +1,6 @@
 -- One list of tokens is one list of statements.
 use Rattle.std.proofs.Common.{[], ◌∷◌, ◌≡◌, true, false, Bool, List, ℕ, suc, Some, None, refl, sym, ap, subst, ◌∙◌}
-use Rattle.slices.specs.declared.toks.Tok.{Tok}
+use Rattle.ufl_syntax.specs.declared.span.Span.{Span}
 use Rattle.ufl_syntax.specs.declared.class.Class.{Class}
 use Rattle.ufl_syntax.specs.declared.class.Class.TheVariants as k
 use Rattle.ufl_syntax.specs.declared.class.Lexeme.{Lexeme}
@@ -90,7 +90,7 @@ mutual
       let r = tails c c' m m' (one_rest (run (a_sum n ∷ []) ts) (c ∷ m) (c' ∷ m') (c_sum d (ap more_sum h) []) (c_sum d' (ap more_sum h') [])) in
       let a = u_sum d (ap more_sum h) e' (c' ∷ m') d' (ap more_sum h') in
       let b = u_later l end es' others (subst (λ us. Later n us es' others) (sym r.1) l') end' in
-      ap (λ t. s.Tuple t.tok (e ∷ es)) r.0 ∙ ap (λ v. s.Tuple c'.tok (v ∷ es)) a ∙ ap (λ v. s.Tuple c'.tok (e' ∷ v)) b
+      ap (λ t. s.Tuple t.span (e ∷ es)) r.0 ∙ ap (λ v. s.Tuple c'.span (v ∷ es)) a ∙ ap (λ v. s.Tuple c'.span (e' ∷ v)) b
 
   pub u_later : {n : ℕ} {ts : List Lexeme} {es : List Syn} {rest : List Lexeme} → Later n ts es rest → Ends more rest → (xs : List Syn) (others : List Lexeme) → Later n ts xs others → Ends more others → es ≡ xs
   u_later no_later end xs others no_later end' = refl
@@ -146,7 +146,7 @@ mutual
       ap (λ y. next op y ∷ ns) u ∙ ap (λ y. next op e' ∷ y) v
 
   pub u_signed : {n : ℕ} {ts : List Lexeme} {e : Syn} {rest : List Lexeme} → Signed n ts e rest → Ends more_signed rest → (x : Syn) (others : List Lexeme) → Signed n ts x others → Ends more_signed others → e ≡ x
-  u_signed (sign {op = op} h a) end x others (sign {e = e'} h' a') end' = ap (s.Sign op.tok) (u_signed a end e' others a' end')
+  u_signed (sign {op = op} h a) end x others (sign {e = e'} h' a') end' = ap (s.Sign op.span) (u_signed a end e' others a' end')
   u_signed (sign {op = op} h a) end x others (plain a') end' = let y : true ≡ false = sym h ∙ postfix_plain a' in cc
   u_signed (sign {op = op} h a) end x others (power a' h' b') end' = let y : true ≡ false = sym h ∙ postfix_plain a' in cc
   u_signed (plain a) end x others (sign h' a') end' = let y : true ≡ false = sym h' ∙ postfix_plain a in cc
@@ -182,11 +182,11 @@ mutual
       ap (λ y. y ∷ ps) u ∙ ap (λ y. q' ∷ y) v
 
   pub u_post : {n : ℕ} {ts : List Lexeme} {q : Post} {rest : List Lexeme} → OnePost n ts q rest → (x : Post) (others : List Lexeme) → OnePost n ts x others → q ≡ x
-  u_post (call {open_ = t} h a i) x others (call {as_ = as_} {close = c} h' a' i') = ap (p.Call t.tok) (u_args a (ap more i) as_ (c ∷ others) a' (ap more i'))
+  u_post (call {open_ = t} h a i) x others (call {as_ = as_} {close = c} h' a' i') = ap (p.Call t.span) (u_args a (ap more i) as_ (c ∷ others) a' (ap more i'))
   u_post (call h a i) x others (index h' a' i') = let y : k.Open ≡ k.OpenList = sym h ∙ h' in cc
   u_post (call h a i) x others (attr h' i') = let y : k.Open ≡ k.Dot = sym h ∙ h' in cc
   u_post (index h a i) x others (call h' a' i') = let y : k.OpenList ≡ k.Open = sym h ∙ h' in cc
-  u_post (index {open_ = t} h a i) x others (index {e = e} {close = c} h' a' i') = ap (p.Index t.tok) (u_value a (ap more i) e (c ∷ others) a' (ap more i'))
+  u_post (index {open_ = t} h a i) x others (index {e = e} {close = c} h' a' i') = ap (p.Index t.span) (u_value a (ap more i) e (c ∷ others) a' (ap more i'))
   u_post (index h a i) x others (attr h' i') = let y : k.OpenList ≡ k.Dot = sym h ∙ h' in cc
   u_post (attr h i) x others (call h' a' i') = let y : k.Dot ≡ k.Open = sym h ∙ h' in cc
   u_post (attr h i) x others (index h' a' i') = let y : k.Dot ≡ k.OpenList = sym h ∙ h' in cc
@@ -218,7 +218,7 @@ mutual
   u_arg {n = n} (keyed {name = t} {b = b} {eq = u} {ts = us} h i d) end x others (positional d') end' =
       absurd (rest_not_assign n t (u ∷ us) others b h end' (c_sum d' (ends_by more_arg more_sum arg_sum others end') []) i)
   u_arg {rest = rest} (keyed {name = t} h i d) end x others (keyed {e = e'} h' i' d') end' =
-      ap (argument (Some t.tok)) (u_sum d (ends_by more_arg more_sum arg_sum rest end) e' others d' (ends_by more_arg more_sum arg_sum others end'))
+      ap (argument (Some t.span)) (u_sum d (ends_by more_arg more_sum arg_sum rest end) e' others d' (ends_by more_arg more_sum arg_sum others end'))
 
   pub u_atom : {n : ℕ} {ts : List Lexeme} {e : Syn} {rest : List Lexeme} → Atom n ts e rest → (x : Syn) (others : List Lexeme) → Atom n ts x others → e ≡ x
   u_atom (a_name {b = b} h) x others (a_name {b = b'} h') = refl
@@ -245,14 +245,14 @@ mutual
   u_atom (a_list h a i) x others (a_number h') = let y : k.OpenList ≡ k.Number = sym h ∙ h' in cc
   u_atom (a_list h a i) x others (a_text h') = let y : k.OpenList ≡ k.Text = sym h ∙ h' in cc
   u_atom (a_list h a i) x others (bracketed h' a' i') = let y : k.OpenList ≡ k.Open = sym h ∙ h' in cc
-  u_atom (a_list {open_ = t} h a i) x others (a_list {es = es} {close = c} h' a' i') = ap (s.List t.tok) (u_later a (ap more i) es (c ∷ others) a' (ap more i'))
+  u_atom (a_list {open_ = t} h a i) x others (a_list {es = es} {close = c} h' a' i') = ap (s.List t.span) (u_later a (ap more i) es (c ∷ others) a' (ap more i'))
 
 -- a class that no name has next
 name_more : (t : Lexeme) (b : Bool) (f : Class → Bool) → t.class ≡ k.Name b → f (k.Name b) ≡ true → f t.class ≡ false → ⊥
 name_more t b f h x e = let y : true ≡ false = sym x ∙ ap f (sym h) ∙ e in cc
 
-pub u_later_names : {ts : List Lexeme} {names : List Tok} {rest : List Lexeme} → LaterNames ts names rest → Ends more_names rest
-    → (xs : List Tok) (others : List Lexeme) → LaterNames ts xs others → Ends more_names others → names ≡ xs
+pub u_later_names : {ts : List Lexeme} {names : List Span} {rest : List Lexeme} → LaterNames ts names rest → Ends more_names rest
+    → (xs : List Span) (others : List Lexeme) → LaterNames ts xs others → Ends more_names others → names ≡ xs
 u_later_names no_name end xs others no_name end' = refl
 u_later_names no_name end xs others (last_name {t = t} {b = b} h') end' = absurd (name_more t b more_names h' refl end)
 u_later_names no_name end xs others (further_name {t = t} {b = b} h' i' l') end' = absurd (name_more t b more_names h' refl end)
@@ -261,33 +261,33 @@ u_later_names (last_name h) end xs others (last_name h') end' = refl
 u_later_names (last_name h) end xs others (further_name {comma = c} h' i' l') end' = let y : true ≡ false = sym (ap more_names i') ∙ end in cc
 u_later_names (further_name {t = t} {b = b} h i l) end xs others no_name end' = absurd (name_more t b more_names h refl end')
 u_later_names (further_name {comma = c} h i l) end xs others (last_name h') end' = let y : true ≡ false = sym (ap more_names i) ∙ end' in cc
-u_later_names (further_name {t = t} h i l) end xs others (further_name {names = ys} h' i' l') end' = ap (λ v. t.tok ∷ v) (u_later_names l end ys others l' end')
+u_later_names (further_name {t = t} h i l) end xs others (further_name {names = ys} h' i' l') end' = ap (λ v. t.span ∷ v) (u_later_names l end ys others l' end')
 
-pub u_names : {ts : List Lexeme} {names : List Tok} {unpack : Bool} {rest : List Lexeme} → Names ts names unpack rest → Ends more_names rest
-    → (xs : List Tok) (b : Bool) (others : List Lexeme) → Names ts xs b others → Ends more_names others → (names ≡ xs) × (unpack ≡ b)
+pub u_names : {ts : List Lexeme} {names : List Span} {unpack : Bool} {rest : List Lexeme} → Names ts names unpack rest → Ends more_names rest
+    → (xs : List Span) (b : Bool) (others : List Lexeme) → Names ts xs b others → Ends more_names others → (names ≡ xs) × (unpack ≡ b)
 u_names (one_name h) end xs b others (one_name h') end' = (refl, refl)
 u_names (one_name h) end xs b others (several_names h' i' l') end' = let y : true ≡ false = sym (ap more_names i') ∙ end in (cc, cc)
 u_names (several_names h i l) end xs b others (one_name h') end' = let y : true ≡ false = sym (ap more_names i) ∙ end' in (cc, cc)
-u_names (several_names {t = t} h i l) end xs b others (several_names {names = ys} h' i' l') end' = (ap (λ v. t.tok ∷ v) (u_later_names l end ys others l' end'), refl)
+u_names (several_names {t = t} h i l) end xs b others (several_names {names = ys} h' i' l') end' = (ap (λ v. t.span ∷ v) (u_later_names l end ys others l' end'), refl)
 
 -- names at the head of a statement begin with a name, and not with a bracket
-names_name : {ts : List Lexeme} {names : List Tok} {unpack : Bool} {rest : List Lexeme} → Names ts names unpack rest → Heads is_open false ts
+names_name : {ts : List Lexeme} {names : List Span} {unpack : Bool} {rest : List Lexeme} → Names ts names unpack rest → Heads is_open false ts
 names_name (one_name h) = ap is_open h
 names_name (several_names h i l) = ap is_open h
 
 clash_open : (t : Lexeme) → t.class ≡ k.Open → is_open t.class ≡ false → ⊥
 clash_open t h e = let y : true ≡ false = sym (ap is_open h) ∙ e in cc
 
-pub u_targets : {ts : List Lexeme} {names : List Tok} {unpack : Bool} {rest : List Lexeme} → Targets ts names unpack rest → Ends more_names rest
-    → (xs : List Tok) (b : Bool) (others : List Lexeme) → Targets ts xs b others → Ends more_names others → (names ≡ xs) × (unpack ≡ b)
+pub u_targets : {ts : List Lexeme} {names : List Span} {unpack : Bool} {rest : List Lexeme} → Targets ts names unpack rest → Ends more_names rest
+    → (xs : List Span) (b : Bool) (others : List Lexeme) → Targets ts xs b others → Ends more_names others → (names ≡ xs) × (unpack ≡ b)
 u_targets (bare_targets a) end xs b others (bare_targets a') end' = u_names a end xs b others a' end'
 u_targets (bare_targets a) end xs b others (bracketed_targets {open_ = t} h' a' i') end' = absurd (clash_open t h' (names_name a))
 u_targets (bracketed_targets {open_ = t} h a i) end xs b others (bare_targets a') end' = absurd (clash_open t h (names_name a'))
 u_targets (bracketed_targets h a i) end xs b others (bracketed_targets {close = c} h' a' i') end' = u_names a (ap more_names i) xs b (c ∷ others) a' (ap more_names i')
 
 -- what is left after targets is the same
-targets_rest : {ts : List Lexeme} {names : List Tok} {unpack : Bool} {rest : List Lexeme} → Targets ts names unpack rest → Ends more_names rest
-    → (xs : List Tok) (b : Bool) (others : List Lexeme) → Targets ts xs b others → Ends more_names others → rest ≡ others
+targets_rest : {ts : List Lexeme} {names : List Span} {unpack : Bool} {rest : List Lexeme} → Targets ts names unpack rest → Ends more_names rest
+    → (xs : List Span) (b : Bool) (others : List Lexeme) → Targets ts xs b others → Ends more_names others → rest ≡ others
 targets_rest {ts = ts} {rest = rest} (bare_targets a) end xs b others (bare_targets a') end' =
     one_rest (run (a_word 0 ∷ after_target ∷ []) ts) rest others (c_names a end 0 []) (c_names a' end' 0 [])
 targets_rest (bare_targets a) end xs b others (bracketed_targets {open_ = t} h' a' i') end' = absurd (clash_open t h' (names_name a))
@@ -306,9 +306,9 @@ update_not k.SubAssign op h = (λ e. cc, refl)
 update_not _ op h = absurd h
 
 -- after one name stands the sign
-only_name : (t : Lexeme) (us rest : List Lexeme) (b : Bool) (names : List Tok) (unpack : Bool) (u : Lexeme) → t.class ≡ k.Name b → more_names u.class ≡ false
+only_name : (t : Lexeme) (us rest : List Lexeme) (b : Bool) (names : List Span) (unpack : Bool) (u : Lexeme) → t.class ≡ k.Name b → more_names u.class ≡ false
     → Targets (t ∷ u ∷ us) names unpack rest → Ends more_names rest → rest ≡ u ∷ us
-only_name t us rest b names unpack u h e a end = targets_rest a end (t.tok ∷ []) false (u ∷ us) (bare_targets (one_name h)) e
+only_name t us rest b names unpack u h e a end = targets_rest a end (t.span ∷ []) false (u ∷ us) (bare_targets (one_name h)) e
 
 import_name : (t : Lexeme) (b : Bool) → t.class ≡ k.From → t.class ≡ k.Name b → ⊥
 import_name t b h e = let y : k.From ≡ k.Name b = sym h ∙ e in cc
@@ -317,15 +317,15 @@ import_open : (ts : List Lexeme) → Heads is_from true ts → Heads is_from fal
 import_open [] h e = h
 import_open (t ∷ ts) h e = let y : true ≡ false = sym h ∙ e in cc
 
-names_from : {ts : List Lexeme} {names : List Tok} {unpack : Bool} {rest : List Lexeme} → Names ts names unpack rest → Heads is_from false ts
+names_from : {ts : List Lexeme} {names : List Span} {unpack : Bool} {rest : List Lexeme} → Names ts names unpack rest → Heads is_from false ts
 names_from (one_name h) = ap is_from h
 names_from (several_names h i l) = ap is_from h
 
-targets_from : {ts : List Lexeme} {names : List Tok} {unpack : Bool} {rest : List Lexeme} → Targets ts names unpack rest → Heads is_from false ts
+targets_from : {ts : List Lexeme} {names : List Span} {unpack : Bool} {rest : List Lexeme} → Targets ts names unpack rest → Heads is_from false ts
 targets_from (bare_targets a) = names_from a
 targets_from (bracketed_targets h a i) = ap is_from h
 
-clash_update : (t u : Lexeme) (us vs : List Lexeme) (b : Bool) (names : List Tok) (unpack : Bool) (op : AssignOp) (eq : Lexeme) → t.class ≡ k.Name b → updates u.class op
+clash_update : (t u : Lexeme) (us vs : List Lexeme) (b : Bool) (names : List Span) (unpack : Bool) (op : AssignOp) (eq : Lexeme) → t.class ≡ k.Name b → updates u.class op
     → Targets (t ∷ u ∷ us) names unpack (eq ∷ vs) → eq.class ≡ k.Assign → ⊥
 clash_update t u us vs b names unpack op eq h x a i =
     let n = update_not u.class op x in
@@ -338,7 +338,7 @@ ended_one : {n : ℕ} {us : List Lexeme} {e : Syn} {end : Lexeme} {rest : List L
 ended_one v h x c others w i = u_value v (ap more h) x (c ∷ others) w (ap more i)
 
 pub u_statement : {n : ℕ} {ts : List Lexeme} {st : Stmt} {rest : List Lexeme} → Statement n ts st rest → (x : Stmt) (others : List Lexeme) → Statement n ts x others → st ≡ x
-u_statement {st = a} (imports {from_ = f} hf hu hi hs he p) x others (imports hf' hu' hi' hs' he' p') = same_statement a x f.tok.line [] false o.ImportAll None p p'
+u_statement {st = a} (imports {from_ = f} hf hu hi hs he p) x others (imports hf' hu' hi' hs' he' p') = same_statement a x f.line [] false o.ImportAll None p p'
 u_statement {ts = ts} (imports hf hu hi hs he p) x others (assigns a' h' v' e' p') = absurd (import_open ts (ap is_from hf) (targets_from a'))
 u_statement (imports {from_ = f} hf hu hi hs he p) x others (updated {b = b} h' x' v' e' p') = absurd (import_name f b hf h')
 u_statement {ts = ts} (assigns a h v e p) x others (imports hf' hu' hi' hs' he' p') = absurd (import_open ts (ap is_from hf') (targets_from a))
@@ -353,7 +353,7 @@ u_statement (updated {b = b} h x v e p) y others (imports {from_ = f} hf' hu' hi
 u_statement (updated {t = t} {b = b} {sign = u} {op = op} {us = vs} h x v e p) y others (assigns {names = names} {unpack = unpack} {eq = q} {us = us} a' h' v' e' p') =
     absurd (clash_update t u vs us b names unpack op q h x a' h')
 u_statement {st = st} (updated {t = t} {sign = u} {op = op} {e = y} h x v e p) z others (updated {op = op'} {e = y'} {end = c} h' x' v' e' p') =
-    same_statement st z t.tok.line (t.tok ∷ []) false op' (Some y') (p.0, p.1, p.2, p.3 ∙ op_one u.class op op' x x', p.4 ∙ ap Some (ended_one v e y' c others v' e')) p'
+    same_statement st z t.line (t.span ∷ []) false op' (Some y') (p.0, p.1, p.2, p.3 ∙ op_one u.class op op' x x', p.4 ∙ ap Some (ended_one v e y' c others v' e')) p'
 
 pub u_file : {n : ℕ} {ts : List Lexeme} {sts : List Stmt} {rest : List Lexeme} → File n ts sts rest → Ends begins_statement rest
     → (xs : List Stmt) (others : List Lexeme) → File n ts xs others → Ends begins_statement others → sts ≡ xs

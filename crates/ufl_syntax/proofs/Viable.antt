@@ -115,7 +115,7 @@ step_back (q ∷ stack) t ts rest h = back_by q stack t ts rest (part_on q t.cla
 of_class : Lexeme → Class → Lexeme
 of_class t j = record t { class = j }
 
-a_short_sum : {n : ℕ} (t : Lexeme) (rest : List Lexeme) → t.class ≡ k.Name false → g.Sum n (t ∷ rest) (s.Name t.tok) rest
+a_short_sum : {n : ℕ} (t : Lexeme) (rest : List Lexeme) → t.class ≡ k.Name false → g.Sum n (t ∷ rest) (s.Name t.span) rest
 a_short_sum t rest h = g.sum (g.term (g.plain (g.postfix (g.a_name h) g.no_post)) g.no_mul) g.no_add
 
 word : (t : Lexeme) (q : Part) (rest : List Lexeme) → (ts : List Lexeme) × Is q ts rest

@@ -1,14 +1,13 @@
 -- A list of tokens is a list of statements, ends too early, or has one refused token.
-use Rattle.std.proofs.Common.{[], ◌∷◌, ◌++◌, ◌≡◌, ◌≤◌, ◌⊎◌, inl, inr, true, false, Bool, List, ℕ, refl, sym, ap, subst, ◌∙◌, append_assoc, append-nil}
+use Rattle.std.proofs.Common.{[], ◌∷◌, ◌≡◌, ◌≤◌, ◌⊎◌, inl, inr, true, false, List, ℕ, refl, sym, ap, subst, ◌∙◌, append_assoc, append-nil}
 use Rattle.ufl_syntax.specs.declared.class.Lexeme.{Lexeme}
-use Rattle.ufl_syntax.specs.declared.tree.Stmt.{Stmt}
 use Rattle.ufl_syntax.specs.Grammar.{File}
 use Rattle.ufl_syntax.specs.Machine.{run, Outcome, ended, stopped, sank, statements}
-use Rattle.ufl_syntax.specs.Refusal.{Begins, IsRefused, IsWrong, IsTooDeep, EndsEarly, StopsAt, Stops, AreStatements}
+use Rattle.ufl_syntax.specs.Refusal.{Begins, EndsEarly, StopsAt, Stops, AreStatements}
 use Rattle.ufl_syntax.proofs.Viable.{whole}
 use Rattle.ufl_syntax.proofs.Complete.{no_file_short}
 use Rattle.ufl_syntax.proofs.Refusal.{ended_begins, is_refused, is_sunk, stops_at, sinks_at}
-use Rattle.ufl_syntax.proofs.Only.{none_begins, one_refused, not_both}
+use Rattle.ufl_syntax.proofs.Only.{none_begins, one_refused}
 
 abbrev Is : ℕ → List Lexeme → Type 0
 Is n ts = AreStatements n ts ⊎ EndsEarly n ts ⊎ Stops n ts

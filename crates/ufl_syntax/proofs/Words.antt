@@ -1,7 +1,7 @@
 -- What each part may be, and that what the machine takes can be gone on with.
 use Rattle.std.proofs.Common.{[], ◌∷◌, ◌++◌, ◌≡◌, ◌==◌, ◌⊎◌, inl, inr, true, false, Bool, List, ℕ, zero, suc, Some, None, refl, sym, ap, subst, ◌∙◌, arith}
 use Rattle.std.proofs.lemmas.Bool.{eqb-true}
-use Rattle.slices.specs.declared.toks.Tok.{Tok}
+use Rattle.ufl_syntax.specs.declared.span.Span.{Span}
 use Rattle.ufl_syntax.specs.declared.class.Class.{Class}
 use Rattle.ufl_syntax.specs.declared.class.Class.TheVariants as k
 use Rattle.ufl_syntax.specs.declared.class.Lexeme.{Lexeme}
@@ -36,7 +36,7 @@ abbrev Muls : ℕ → List Lexeme → List Lexeme → Type 0
 Muls n ts rest = (ns : List Next) × g.Muls n ts ns rest
 
 abbrev LaterNames : List Lexeme → List Lexeme → Type 0
-LaterNames ts rest = (names : List Tok) × g.LaterNames ts names rest
+LaterNames ts rest = (names : List Span) × g.LaterNames ts names rest
 
 -- a token of this class
 abbrev One : Class → List Lexeme → List Lexeme → Type 0
@@ -121,9 +121,9 @@ closed j ts rest h = one (token j) ts rest h
 
 -- what is a part after a token, is one with it
 atom_back : (n : ℕ) (t : Lexeme) (ts rest : List Lexeme) (j : Class) → t.class ≡ j → AllOf (atom_on n j) ts rest → Is (an_atom n) (t ∷ ts) rest
-atom_back n t ts rest (k.Name b) e h = (s.Name t.tok, subst (λ r. g.Atom n (t ∷ ts) (s.Name t.tok) r) h (g.a_name e))
-atom_back n t ts rest k.Number e h = (s.Number t.tok, subst (λ r. g.Atom n (t ∷ ts) (s.Number t.tok) r) h (g.a_number e))
-atom_back n t ts rest k.Text e h = (s.Text t.tok, subst (λ r. g.Atom n (t ∷ ts) (s.Text t.tok) r) h (g.a_text e))
+atom_back n t ts rest (k.Name b) e h = (s.Name t.span, subst (λ r. g.Atom n (t ∷ ts) (s.Name t.span) r) h (g.a_name e))
+atom_back n t ts rest k.Number e h = (s.Number t.span, subst (λ r. g.Atom n (t ∷ ts) (s.Number t.span) r) h (g.a_number e))
+atom_back n t ts rest k.Text e h = (s.Text t.span, subst (λ r. g.Atom n (t ∷ ts) (s.Text t.span) r) h (g.a_text e))
 atom_back zero t ts rest k.Open e h = absurd h
 atom_back (suc n) t ts rest k.Open e h =
     let c = closed k.Close h.0 rest h.2 in
@@ -131,7 +131,7 @@ atom_back (suc n) t ts rest k.Open e h =
 atom_back zero t ts rest k.OpenList e h = absurd h
 atom_back (suc n) t ts rest k.OpenList e h =
     let c = closed k.CloseList h.0 rest h.2 in
-    (s.List t.tok h.1.0, g.a_list e (subst (λ m. g.Later n ts h.1.0 m) c.1 h.1.1) c.2)
+    (s.List t.span h.1.0, g.a_list e (subst (λ m. g.Later n ts h.1.0 m) c.1 h.1.1) c.2)
 atom_back n t ts rest _ e h = absurd h
 
 postfix_back : (n : ℕ) (t : Lexeme) (ts rest : List Lexeme) (j : Class) → t.class ≡ j → AllOf (then_ (atom_on n j) (posts n ∷ [])) ts rest → Is (a_postfix n) (t ∷ ts) rest
@@ -154,7 +154,7 @@ base_back n t ts rest j e h =
 
 sign_back : (n : ℕ) (t : Lexeme) (ts rest : List Lexeme) → is_sign t.class ≡ true → AllOf (inside n (λ m. a_signed m ∷ [])) ts rest → Is (a_signed n) (t ∷ ts) rest
 sign_back zero t ts rest e h = absurd h
-sign_back (suc n) t ts rest e h = let r = one (a_signed n) ts rest h in (s.Sign t.tok r.0, g.sign e r.1)
+sign_back (suc n) t ts rest e h = let r = one (a_signed n) ts rest h in (s.Sign t.span r.0, g.sign e r.1)
 
 signed_back : (n : ℕ) (t : Lexeme) (ts rest : List Lexeme) (j : Class) → t.class ≡ j → AllOf (signed_on n j) ts rest → Is (a_signed n) (t ∷ ts) rest
 signed_back n t ts rest k.Plus e h = sign_back n t ts rest (ap is_sign e) h
@@ -206,7 +206,7 @@ comma_back next t ts rest _ e h = absurd h
 
 value_by : (n : ℕ) (ts mid rest : List Lexeme) (e : Syn) → g.Sum n ts e mid → Comma (Is (a_later n)) mid rest → Is (a_value n) ts rest
 value_by n ts mid rest e a (inl h) = (e, g.single (subst (λ r. g.Sum n ts e r) h a))
-value_by n ts mid rest e a (inr h) = (s.Tuple h.0.tok (e ∷ h.4.0), g.tuple (subst (λ r. g.Sum n ts e r) h.2 a) h.3 h.4.1)
+value_by n ts mid rest e a (inr h) = (s.Tuple h.0.span (e ∷ h.4.0), g.tuple (subst (λ r. g.Sum n ts e r) h.2 a) h.3 h.4.1)
 
 later_by : (n : ℕ) (ts mid rest : List Lexeme) (e : Syn) → g.Sum n ts e mid → Comma (Is (a_later n)) mid rest → Is (a_later n) ts rest
 later_by n ts mid rest e a (inl h) = (e ∷ [], g.last (subst (λ r. g.Sum n ts e r) h a))
@@ -227,14 +227,14 @@ post_back : (n : ℕ) (t : Lexeme) (ts rest : List Lexeme) (j : Class) → t.cla
 post_back zero t ts rest k.Open e h = absurd h
 post_back (suc n) t ts rest k.Open e h =
     let c = closed k.Close h.0 rest h.2 in
-    (p.Call t.tok h.1.0, g.call e (subst (λ m. g.Args n ts h.1.0 m) c.1 h.1.1) c.2)
+    (p.Call t.span h.1.0, g.call e (subst (λ m. g.Args n ts h.1.0 m) c.1 h.1.1) c.2)
 post_back zero t ts rest k.OpenList e h = absurd h
 post_back (suc n) t ts rest k.OpenList e h =
     let c = closed k.CloseList h.0 rest h.2 in
-    (p.Index t.tok h.1.0, g.index e (subst (λ m. g.Value n ts h.1.0 m) c.1 h.1.1) c.2)
+    (p.Index t.span h.1.0, g.index e (subst (λ m. g.Value n ts h.1.0 m) c.1 h.1.1) c.2)
 post_back n t ts rest k.Dot e h =
     let c = one (a_word n) ts rest h in
-    (p.Attr c.0.tok, subst (λ us. g.OnePost n (t ∷ us) (p.Attr c.0.tok) rest) (sym c.2) (g.attr e c.3))
+    (p.Attr c.0.span, subst (λ us. g.OnePost n (t ∷ us) (p.Attr c.0.span) rest) (sym c.2) (g.attr e c.3))
 post_back n t ts rest _ e h = absurd h
 
 posts_back : (n : ℕ) (t : Lexeme) (ts rest : List Lexeme) (j : Class) → t.class ≡ j → AllOf (posts_on n j) ts rest → Is (posts n) (t ∷ ts) rest
@@ -281,9 +281,9 @@ name_back n t ts rest k.Dot e h = by_posts n t ts rest k.Dot e h
 name_back n t ts rest _ e h = absurd h
 
 named : (n : ℕ) (t : Lexeme) (ts rest : List Lexeme) (b : Bool) → t.class ≡ k.Name b → Is (after_name n) ts rest → Is (an_arg n) (t ∷ ts) rest
-named n t ts rest b e (inl h) = (g.argument (Some t.tok) h.4, subst (λ us. g.OneArg n (t ∷ us) (g.argument (Some t.tok) h.4) rest) (sym h.2) (g.keyed e h.3 h.5))
+named n t ts rest b e (inl h) = (g.argument (Some t.span) h.4, subst (λ us. g.OneArg n (t ∷ us) (g.argument (Some t.span) h.4) rest) (sym h.2) (g.keyed e h.3 h.5))
 named n t ts rest b e (inr h) =
-    let a = with_power n (t ∷ ts) h.0 h.1 (g.applied (s.Name t.tok) h.3.0) (g.postfix (g.a_name e) h.3.1) h.4 in
+    let a = with_power n (t ∷ ts) h.0 h.1 (g.applied (s.Name t.span) h.3.0) (g.postfix (g.a_name e) h.3.1) h.4 in
     (g.argument None (g.chain (g.chain a.0 h.5.0) h.6.0), g.positional (g.sum (g.term a.1 h.5.1) h.6.1))
 
 unnamed : (n : ℕ) (t : Lexeme) (ts rest : List Lexeme) (j : Class) → t.class ≡ j → AllOf (sum_on n j) ts rest → Is (an_arg n) (t ∷ ts) rest
@@ -401,8 +401,8 @@ word_back (suc n) t ts rest k.OpenList e h = absurd h
 word_back n t ts rest _ e h = absurd h
 
 names_by : (t : Lexeme) (ts rest : List Lexeme) (b : Bool) → t.class ≡ k.Name b → Comma LaterNames ts rest → LaterNames (t ∷ ts) rest
-names_by t ts rest b e (inl h) = (t.tok ∷ [], subst (λ r. g.LaterNames (t ∷ ts) (t.tok ∷ []) r) h (g.last_name e))
-names_by t ts rest b e (inr h) = (t.tok ∷ h.4.0, subst (λ l. g.LaterNames (t ∷ l) (t.tok ∷ h.4.0) rest) (sym h.2) (g.further_name e h.3 h.4.1))
+names_by t ts rest b e (inl h) = (t.span ∷ [], subst (λ r. g.LaterNames (t ∷ ts) (t.span ∷ []) r) h (g.last_name e))
+names_by t ts rest b e (inr h) = (t.span ∷ h.4.0, subst (λ l. g.LaterNames (t ∷ l) (t.span ∷ h.4.0) rest) (sym h.2) (g.further_name e h.3 h.4.1))
 
 names_back : (t : Lexeme) (ts rest : List Lexeme) (j : Class) → t.class ≡ j → AllOf (names_on j) ts rest → LaterNames (t ∷ ts) rest
 names_back t ts rest (k.Name b) e h = names_by t ts rest b e (one after_target ts rest h)
@@ -424,25 +424,25 @@ first_back n t ts rest k.SubAssign e h = inr (inl (t, ts, o.Minus, refl, subst (
 first_back n t ts rest k.Comma e h = inr (inr (t, ts, h.0, refl, e, h.1, assigned_by n h.0 rest h.2))
 first_back n t ts rest _ e h = absurd h
 
-assigned_to : (n : ℕ) (ts us rest : List Lexeme) (names : List Tok) (unpack : Bool) → g.Targets ts names unpack us → Assigned n us rest → Is (a_statement n) ts rest
+assigned_to : (n : ℕ) (ts us rest : List Lexeme) (names : List Span) (unpack : Bool) → g.Targets ts names unpack us → Assigned n us rest → Is (a_statement n) ts rest
 assigned_to n ts us rest names unpack a h =
     let st = assignment_of (g.first_line ts) names unpack o.Set h.4.0 (some_targets a) in
     (st, g.assigns (subst (λ l. g.Targets ts names unpack l) h.2 a) h.3 h.4.2 h.4.3 (refl, refl, refl, refl, refl))
 
 pub first_of : (n : ℕ) (t : Lexeme) (ts rest : List Lexeme) (b : Bool) → t.class ≡ k.Name b → AfterFirst n ts rest → Is (a_statement n) (t ∷ ts) rest
-first_of n t ts rest b e (inl h) = assigned_to n (t ∷ ts) ts rest (t.tok ∷ []) false (g.bare_targets (g.one_name e)) h
+first_of n t ts rest b e (inl h) = assigned_to n (t ∷ ts) ts rest (t.span ∷ []) false (g.bare_targets (g.one_name e)) h
 first_of n t ts rest b e (inr (inl h)) =
-    let st = assignment_of t.tok.line (t.tok ∷ []) false h.2 h.5.0 (omega arith) in
+    let st = assignment_of t.line (t.span ∷ []) false h.2 h.5.0 (omega arith) in
     (st, subst (λ l. g.Statement n (t ∷ l) st rest) (sym h.3) (g.updated e h.4 h.5.2 h.5.3 (refl, refl, refl, refl, refl)))
 first_of n t ts rest b e (inr (inr h)) =
-    assigned_to n (t ∷ ts) h.2 rest (t.tok ∷ h.5.0) true
-    (subst (λ l. g.Targets (t ∷ l) (t.tok ∷ h.5.0) true h.2) (sym h.3) (g.bare_targets (g.several_names e h.4 h.5.1))) h.6
+    assigned_to n (t ∷ ts) h.2 rest (t.span ∷ h.5.0) true
+    (subst (λ l. g.Targets (t ∷ l) (t.span ∷ h.5.0) true h.2) (sym h.3) (g.bare_targets (g.several_names e h.4 h.5.1))) h.6
 
 -- a name and what may follow it among targets
-names_of : (t : Lexeme) (ts rest : List Lexeme) (b : Bool) → t.class ≡ k.Name b → Comma LaterNames ts rest → (names : List Tok) × (unpack : Bool) × g.Names (t ∷ ts) names unpack rest
-names_of t ts rest b e (inl h) = (t.tok ∷ [], false, subst (λ r. g.Names (t ∷ ts) (t.tok ∷ []) false r) h (g.one_name e))
+names_of : (t : Lexeme) (ts rest : List Lexeme) (b : Bool) → t.class ≡ k.Name b → Comma LaterNames ts rest → (names : List Span) × (unpack : Bool) × g.Names (t ∷ ts) names unpack rest
+names_of t ts rest b e (inl h) = (t.span ∷ [], false, subst (λ r. g.Names (t ∷ ts) (t.span ∷ []) false r) h (g.one_name e))
 names_of t ts rest b e (inr h) =
-    (t.tok ∷ h.4.0, true, subst (λ l. g.Names (t ∷ l) (t.tok ∷ h.4.0) true rest) (sym h.2) (g.several_names e h.3 h.4.1))
+    (t.span ∷ h.4.0, true, subst (λ l. g.Names (t ∷ l) (t.span ∷ h.4.0) true rest) (sym h.2) (g.several_names e h.3 h.4.1))
 
 bracket_back : (n : ℕ) (t : Lexeme) (ts rest : List Lexeme) → t.class ≡ k.Open
     → All (a_word n ∷ after_target ∷ token k.Close ∷ token k.Assign ∷ a_value n ∷ token k.End ∷ []) ts rest → Is (a_statement n) (t ∷ ts) rest
@@ -460,7 +460,7 @@ import_back n t ts rest e h =
     let i = h.2.1 in
     let x = h.2.2.1 in
     let c = closed k.End h.2.2.0 rest h.2.2.2 in
-    let st = import_of t.tok.line in
+    let st = import_of t.line in
     let list : ts ≡ u.0 ∷ i.0 ∷ x.0 ∷ c.0 ∷ rest =
     u.1 ∙ ap (λ l. u.0 ∷ l) i.1 ∙ ap (λ l. u.0 ∷ i.0 ∷ l) x.1 ∙ ap (λ l. u.0 ∷ i.0 ∷ x.0 ∷ l) c.1 in
     (st, subst (λ l. g.Statement n (t ∷ l) st rest) (sym list) (g.imports e u.2 i.2 x.2 c.2 (refl, refl, refl, refl, refl)))

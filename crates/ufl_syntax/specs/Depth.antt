@@ -1,7 +1,10 @@
--- How many brackets, signs and `**` are open at a token: the brackets, and the signs and `**` whose operand hasn't ended.
+-- How many brackets, signs and `**` are open at a token: the brackets, and the signs and `**` whose operand hasn't
+-- ended.
 --
--- An operand holds what stands in its brackets, its calls, indices and attributes, further signs before it and further `**` behind it.
--- So it has ended where, in the same brackets, a token joins two values (`*`, `/`, and a `+` or `-` behind a value) or separates them, and where these brackets or the line end.
+-- An operand holds what stands in its brackets, its calls, indices and attributes, further signs before it and
+-- further `**` behind it.
+-- So it has ended where, in the same brackets, a token joins two values (`*`, `/`, and a `+` or `-` behind a value)
+-- or separates them, and where these brackets or the line end.
 use Rattle.std.specs.Prelude.{ℕ, suc, ◌+◌, Bool, true, false, List, [], ◌∷◌}
 use Rattle.ufl_syntax.specs.declared.class.Class.{Class}
 use Rattle.ufl_syntax.specs.declared.class.Class.TheVariants as k

@@ -17,7 +17,7 @@
 -- Each relation says that its tokens begin with such a part, which is this tree, and what is left.
 -- The number is how many brackets, signs and `**` may still be open inside.
 use Rattle.std.specs.Prelude.{◌≡◌, ℕ, suc, Bool, true, false, List, [], ◌∷◌, ◌++◌, Option, Some, None}
-use Rattle.slices.specs.declared.toks.Tok.{Tok}
+use Rattle.ufl_syntax.specs.declared.span.Span.{Span}
 use Rattle.ufl_syntax.specs.declared.class.Class.{Class}
 use Rattle.ufl_syntax.specs.declared.class.Class.TheVariants as k
 use Rattle.ufl_syntax.specs.declared.class.Lexeme.{Lexeme}
@@ -42,9 +42,9 @@ is_factor k.Divide = true
 is_factor _ = false
 
 abbrev pub next : Lexeme → Syn → Next
-next op e = roll-Next (record { op = op.tok; right = e })
+next op e = roll-Next (record { op = op.span; right = e })
 
-abbrev pub argument : Option Tok → Syn → Arg
+abbrev pub argument : Option Span → Syn → Arg
 argument name e = roll-Arg (record { name = name; value = e })
 
 -- a chain of one part is that part
@@ -74,11 +74,12 @@ applied e (q ∷ qs) = s.Postfix (base_of e) (posts_of e ++ q ∷ qs)
 
 abbrev pub first_line : List Lexeme → ℕ
 first_line [] = 0
-first_line (t ∷ ts) = t.tok.line
+first_line (t ∷ ts) = t.line
 
 -- the statement has these parts
-abbrev pub HasParts : Stmt → ℕ → List Tok → Bool → AssignOp → Option Syn → Type 0
-HasParts st line targets unpack op value = (st.line ≡ line) × (st.targets ≡ targets) × (st.unpack ≡ unpack) × (st.op ≡ op) × (st.value ≡ value)
+abbrev pub HasParts : Stmt → ℕ → List Span → Bool → AssignOp → Option Syn → Type 0
+HasParts st line targets unpack op value = (st.line ≡ line) × (st.targets ≡ targets) × (st.unpack ≡ unpack)
+    × (st.op ≡ op) × (st.value ≡ value)
 
 -- the signs that change a value
 abbrev pub updates : Class → AssignOp → Type 0
@@ -90,14 +91,17 @@ mutual
   -- sum { "," sum } [ "," ]: with a comma it is a tuple
   pub data Value : ℕ → List Lexeme → Syn → List Lexeme → Type 0 where
     single : {n : ℕ} {ts : List Lexeme} {e : Syn} {rest : List Lexeme} → Sum n ts e rest → Value n ts e rest
-    tuple : {n : ℕ} {ts : List Lexeme} {e : Syn} {comma : Lexeme} {mid : List Lexeme} {es : List Syn} {rest : List Lexeme}
-        → Sum n ts e (comma ∷ mid) → comma.class ≡ k.Comma → Later n mid es rest → Value n ts (s.Tuple comma.tok (e ∷ es)) rest
+    tuple : {n : ℕ} {ts : List Lexeme} {e : Syn} {comma : Lexeme} {mid : List Lexeme} {es : List Syn}
+        {rest : List Lexeme}
+        → Sum n ts e (comma ∷ mid) → comma.class ≡ k.Comma → Later n mid es rest
+        → Value n ts (s.Tuple comma.span (e ∷ es)) rest
 
   -- [ sum { "," sum } [ "," ] ]: what may stand after a comma, and in a list's brackets
   pub data Later : ℕ → List Lexeme → List Syn → List Lexeme → Type 0 where
     no_later : {n : ℕ} {rest : List Lexeme} → Later n rest [] rest
     last : {n : ℕ} {ts : List Lexeme} {e : Syn} {rest : List Lexeme} → Sum n ts e rest → Later n ts (e ∷ []) rest
-    further : {n : ℕ} {ts : List Lexeme} {e : Syn} {comma : Lexeme} {mid : List Lexeme} {es : List Syn} {rest : List Lexeme}
+    further : {n : ℕ} {ts : List Lexeme} {e : Syn} {comma : Lexeme} {mid : List Lexeme} {es : List Syn}
+        {rest : List Lexeme}
         → Sum n ts e (comma ∷ mid) → comma.class ≡ k.Comma → Later n mid es rest → Later n ts (e ∷ es) rest
 
   -- term { ( "+" | "-" ) term }
@@ -124,10 +128,11 @@ mutual
   -- The operand before a `**` has the room that there is without it, since the `**` stands behind it.
   pub data Signed : ℕ → List Lexeme → Syn → List Lexeme → Type 0 where
     sign : {n : ℕ} {op : Lexeme} {ts : List Lexeme} {e : Syn} {rest : List Lexeme}
-        → is_sign op.class ≡ true → Signed n ts e rest → Signed (suc n) (op ∷ ts) (s.Sign op.tok e) rest
+        → is_sign op.class ≡ true → Signed n ts e rest → Signed (suc n) (op ∷ ts) (s.Sign op.span e) rest
     plain : {n : ℕ} {ts : List Lexeme} {e : Syn} {rest : List Lexeme} → Postfix n ts e rest → Signed n ts e rest
     power : {n : ℕ} {ts : List Lexeme} {e : Syn} {op : Lexeme} {mid : List Lexeme} {x : Syn} {rest : List Lexeme}
-        → Postfix (suc n) ts e (op ∷ mid) → op.class ≡ k.Power → Signed n mid x rest → Signed (suc n) ts (s.Binary e (next op x ∷ [])) rest
+        → Postfix (suc n) ts e (op ∷ mid) → op.class ≡ k.Power → Signed n mid x rest
+        → Signed (suc n) ts (s.Binary e (next op x ∷ [])) rest
 
   -- atom { "(" [ args ] ")" | "[" value "]" | "." NAME }
   pub data Postfix : ℕ → List Lexeme → Syn → List Lexeme → Type 0 where
@@ -141,66 +146,84 @@ mutual
 
   pub data OnePost : ℕ → List Lexeme → Post → List Lexeme → Type 0 where
     call : {n : ℕ} {open_ : Lexeme} {ts : List Lexeme} {as_ : List Arg} {close : Lexeme} {rest : List Lexeme}
-        → open_.class ≡ k.Open → Args n ts as_ (close ∷ rest) → close.class ≡ k.Close → OnePost (suc n) (open_ ∷ ts) (p.Call open_.tok as_) rest
+        → open_.class ≡ k.Open → Args n ts as_ (close ∷ rest) → close.class ≡ k.Close
+        → OnePost (suc n) (open_ ∷ ts) (p.Call open_.span as_) rest
     index : {n : ℕ} {open_ : Lexeme} {ts : List Lexeme} {e : Syn} {close : Lexeme} {rest : List Lexeme}
-        → open_.class ≡ k.OpenList → Value n ts e (close ∷ rest) → close.class ≡ k.CloseList → OnePost (suc n) (open_ ∷ ts) (p.Index open_.tok e) rest
+        → open_.class ≡ k.OpenList → Value n ts e (close ∷ rest) → close.class ≡ k.CloseList
+        → OnePost (suc n) (open_ ∷ ts) (p.Index open_.span e) rest
     attr : {n : ℕ} {dot : Lexeme} {name : Lexeme} {b : Bool} {rest : List Lexeme}
-        → dot.class ≡ k.Dot → name.class ≡ k.Name b → OnePost n (dot ∷ name ∷ rest) (p.Attr name.tok) rest
+        → dot.class ≡ k.Dot → name.class ≡ k.Name b → OnePost n (dot ∷ name ∷ rest) (p.Attr name.span) rest
 
   -- [ arg { "," arg } [ "," ] ]
   pub data Args : ℕ → List Lexeme → List Arg → List Lexeme → Type 0 where
     no_arg : {n : ℕ} {rest : List Lexeme} → Args n rest [] rest
     last_arg : {n : ℕ} {ts : List Lexeme} {a : Arg} {rest : List Lexeme} → OneArg n ts a rest → Args n ts (a ∷ []) rest
-    further_arg : {n : ℕ} {ts : List Lexeme} {a : Arg} {comma : Lexeme} {mid : List Lexeme} {as_ : List Arg} {rest : List Lexeme}
+    further_arg : {n : ℕ} {ts : List Lexeme} {a : Arg} {comma : Lexeme} {mid : List Lexeme} {as_ : List Arg}
+        {rest : List Lexeme}
         → OneArg n ts a (comma ∷ mid) → comma.class ≡ k.Comma → Args n mid as_ rest → Args n ts (a ∷ as_) rest
 
   -- [ NAME "=" ] sum
   pub data OneArg : ℕ → List Lexeme → Arg → List Lexeme → Type 0 where
-    positional : {n : ℕ} {ts : List Lexeme} {e : Syn} {rest : List Lexeme} → Sum n ts e rest → OneArg n ts (argument None e) rest
+    positional : {n : ℕ} {ts : List Lexeme} {e : Syn} {rest : List Lexeme} → Sum n ts e rest
+        → OneArg n ts (argument None e) rest
     keyed : {n : ℕ} {name : Lexeme} {b : Bool} {eq : Lexeme} {ts : List Lexeme} {e : Syn} {rest : List Lexeme}
-        → name.class ≡ k.Name b → eq.class ≡ k.Assign → Sum n ts e rest → OneArg n (name ∷ eq ∷ ts) (argument (Some name.tok) e) rest
+        → name.class ≡ k.Name b → eq.class ≡ k.Assign → Sum n ts e rest
+        → OneArg n (name ∷ eq ∷ ts) (argument (Some name.span) e) rest
 
   -- NAME | NUMBER | STRING | "(" value ")" | "[" [ value ] "]"
   pub data Atom : ℕ → List Lexeme → Syn → List Lexeme → Type 0 where
-    a_name : {n : ℕ} {t : Lexeme} {b : Bool} {rest : List Lexeme} → t.class ≡ k.Name b → Atom n (t ∷ rest) (s.Name t.tok) rest
-    a_number : {n : ℕ} {t : Lexeme} {rest : List Lexeme} → t.class ≡ k.Number → Atom n (t ∷ rest) (s.Number t.tok) rest
-    a_text : {n : ℕ} {t : Lexeme} {rest : List Lexeme} → t.class ≡ k.Text → Atom n (t ∷ rest) (s.Text t.tok) rest
+    a_name : {n : ℕ} {t : Lexeme} {b : Bool} {rest : List Lexeme} → t.class ≡ k.Name b
+        → Atom n (t ∷ rest) (s.Name t.span) rest
+    a_number : {n : ℕ} {t : Lexeme} {rest : List Lexeme} → t.class ≡ k.Number → Atom n (t ∷ rest) (s.Number t.span) rest
+    a_text : {n : ℕ} {t : Lexeme} {rest : List Lexeme} → t.class ≡ k.Text → Atom n (t ∷ rest) (s.Text t.span) rest
     bracketed : {n : ℕ} {open_ : Lexeme} {ts : List Lexeme} {e : Syn} {close : Lexeme} {rest : List Lexeme}
         → open_.class ≡ k.Open → Value n ts e (close ∷ rest) → close.class ≡ k.Close → Atom (suc n) (open_ ∷ ts) e rest
     a_list : {n : ℕ} {open_ : Lexeme} {ts : List Lexeme} {es : List Syn} {close : Lexeme} {rest : List Lexeme}
-        → open_.class ≡ k.OpenList → Later n ts es (close ∷ rest) → close.class ≡ k.CloseList → Atom (suc n) (open_ ∷ ts) (s.List open_.tok es) rest
+        → open_.class ≡ k.OpenList → Later n ts es (close ∷ rest) → close.class ≡ k.CloseList
+        → Atom (suc n) (open_ ∷ ts) (s.List open_.span es) rest
 
 -- [ NAME { "," NAME } [ "," ] ]: what may stand after a comma among targets
-pub data LaterNames : List Lexeme → List Tok → List Lexeme → Type 0 where
+pub data LaterNames : List Lexeme → List Span → List Lexeme → Type 0 where
   no_name : {rest : List Lexeme} → LaterNames rest [] rest
-  last_name : {t : Lexeme} {b : Bool} {rest : List Lexeme} → t.class ≡ k.Name b → LaterNames (t ∷ rest) (t.tok ∷ []) rest
-  further_name : {t : Lexeme} {b : Bool} {comma : Lexeme} {mid : List Lexeme} {names : List Tok} {rest : List Lexeme}
-      → t.class ≡ k.Name b → comma.class ≡ k.Comma → LaterNames mid names rest → LaterNames (t ∷ comma ∷ mid) (t.tok ∷ names) rest
+  last_name : {t : Lexeme} {b : Bool} {rest : List Lexeme} → t.class ≡ k.Name b
+      → LaterNames (t ∷ rest) (t.span ∷ []) rest
+  further_name : {t : Lexeme} {b : Bool} {comma : Lexeme} {mid : List Lexeme} {names : List Span} {rest : List Lexeme}
+      → t.class ≡ k.Name b → comma.class ≡ k.Comma → LaterNames mid names rest
+      → LaterNames (t ∷ comma ∷ mid) (t.span ∷ names) rest
 
 -- NAME { "," NAME } [ "," ], and whether there is a comma
-pub data Names : List Lexeme → List Tok → Bool → List Lexeme → Type 0 where
-  one_name : {t : Lexeme} {b : Bool} {rest : List Lexeme} → t.class ≡ k.Name b → Names (t ∷ rest) (t.tok ∷ []) false rest
-  several_names : {t : Lexeme} {b : Bool} {comma : Lexeme} {mid : List Lexeme} {names : List Tok} {rest : List Lexeme}
-      → t.class ≡ k.Name b → comma.class ≡ k.Comma → LaterNames mid names rest → Names (t ∷ comma ∷ mid) (t.tok ∷ names) true rest
+pub data Names : List Lexeme → List Span → Bool → List Lexeme → Type 0 where
+  one_name : {t : Lexeme} {b : Bool} {rest : List Lexeme} → t.class ≡ k.Name b
+      → Names (t ∷ rest) (t.span ∷ []) false rest
+  several_names : {t : Lexeme} {b : Bool} {comma : Lexeme} {mid : List Lexeme} {names : List Span} {rest : List Lexeme}
+      → t.class ≡ k.Name b → comma.class ≡ k.Comma → LaterNames mid names rest
+      → Names (t ∷ comma ∷ mid) (t.span ∷ names) true rest
 
 -- names | "(" names ")"
-pub data Targets : List Lexeme → List Tok → Bool → List Lexeme → Type 0 where
-  bare_targets : {ts : List Lexeme} {names : List Tok} {unpack : Bool} {rest : List Lexeme} → Names ts names unpack rest → Targets ts names unpack rest
-  bracketed_targets : {open_ : Lexeme} {ts : List Lexeme} {names : List Tok} {unpack : Bool} {close : Lexeme} {rest : List Lexeme}
-      → open_.class ≡ k.Open → Names ts names unpack (close ∷ rest) → close.class ≡ k.Close → Targets (open_ ∷ ts) names unpack rest
+pub data Targets : List Lexeme → List Span → Bool → List Lexeme → Type 0 where
+  bare_targets : {ts : List Lexeme} {names : List Span} {unpack : Bool} {rest : List Lexeme}
+      → Names ts names unpack rest → Targets ts names unpack rest
+  bracketed_targets : {open_ : Lexeme} {ts : List Lexeme} {names : List Span} {unpack : Bool} {close : Lexeme}
+      {rest : List Lexeme}
+      → open_.class ≡ k.Open → Names ts names unpack (close ∷ rest) → close.class ≡ k.Close
+      → Targets (open_ ∷ ts) names unpack rest
 
 pub data Statement : ℕ → List Lexeme → Stmt → List Lexeme → Type 0 where
-  imports : {n : ℕ} {from_ : Lexeme} {ufl : Lexeme} {import_ : Lexeme} {star : Lexeme} {end : Lexeme} {st : Stmt} {rest : List Lexeme}
-      → from_.class ≡ k.From → ufl.class ≡ k.Name true → import_.class ≡ k.Import → star.class ≡ k.Times → end.class ≡ k.End
-      → HasParts st from_.tok.line [] false o.ImportAll None
+  imports : {n : ℕ} {from_ : Lexeme} {ufl : Lexeme} {import_ : Lexeme} {star : Lexeme} {end : Lexeme} {st : Stmt}
+      {rest : List Lexeme}
+      → from_.class ≡ k.From → ufl.class ≡ k.Name true → import_.class ≡ k.Import → star.class ≡ k.Times
+      → end.class ≡ k.End
+      → HasParts st from_.line [] false o.ImportAll None
       → Statement n (from_ ∷ ufl ∷ import_ ∷ star ∷ end ∷ rest) st rest
-  assigns : {n : ℕ} {ts : List Lexeme} {names : List Tok} {unpack : Bool} {eq : Lexeme} {us : List Lexeme} {e : Syn} {end : Lexeme} {st : Stmt} {rest : List Lexeme}
+  assigns : {n : ℕ} {ts : List Lexeme} {names : List Span} {unpack : Bool} {eq : Lexeme} {us : List Lexeme} {e : Syn}
+      {end : Lexeme} {st : Stmt} {rest : List Lexeme}
       → Targets ts names unpack (eq ∷ us) → eq.class ≡ k.Assign → Value n us e (end ∷ rest) → end.class ≡ k.End
       → HasParts st (first_line ts) names unpack o.Set (Some e)
       → Statement n ts st rest
-  updated : {n : ℕ} {t : Lexeme} {b : Bool} {sign : Lexeme} {op : AssignOp} {us : List Lexeme} {e : Syn} {end : Lexeme} {st : Stmt} {rest : List Lexeme}
+  updated : {n : ℕ} {t : Lexeme} {b : Bool} {sign : Lexeme} {op : AssignOp} {us : List Lexeme} {e : Syn}
+      {end : Lexeme} {st : Stmt} {rest : List Lexeme}
       → t.class ≡ k.Name b → updates sign.class op → Value n us e (end ∷ rest) → end.class ≡ k.End
-      → HasParts st t.tok.line (t.tok ∷ []) false op (Some e)
+      → HasParts st t.line (t.span ∷ []) false op (Some e)
       → Statement n (t ∷ sign ∷ us) st rest
 
 pub data File : ℕ → List Lexeme → List Stmt → List Lexeme → Type 0 where

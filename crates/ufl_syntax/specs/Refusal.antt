@@ -28,13 +28,16 @@ is_opening _ = false
 abbrev pub BeginsAny : List Lexeme → Type 0
 BeginsAny front = (n : ℕ) × Begins n front
 
--- At the bad token more than n brackets, signs and `**` are open. An opening bracket counts even where the grammar can't go on with it, a sign or a `**` only where it can.
+-- At the bad token more than n brackets, signs and `**` are open. An opening bracket counts even where the grammar
+-- can't go on with it, a sign or a `**` only where it can.
 abbrev pub IsTooDeep : ℕ → List Lexeme → Lexeme → Type 0
-IsTooDeep n front bad = (n < depth_at (front ++ bad ∷ [])) × (BeginsAny (front ++ bad ∷ []) ⊎ (is_opening bad.class ≡ true))
+IsTooDeep n front bad = (n < depth_at (front ++ bad ∷ []))
+    × (BeginsAny (front ++ bad ∷ []) ⊎ (is_opening bad.class ≡ true))
 
 -- The grammar can't go on with the bad token, and it is no opening bracket that is too deep.
 abbrev pub IsWrong : ℕ → List Lexeme → Lexeme → Type 0
-IsWrong n front bad = (BeginsAny (front ++ bad ∷ []) → ⊥) × (is_opening bad.class ≡ true → depth_at (front ++ bad ∷ []) ≤ n)
+IsWrong n front bad = (BeginsAny (front ++ bad ∷ []) → ⊥)
+    × (is_opening bad.class ≡ true → depth_at (front ++ bad ∷ []) ≤ n)
 
 -- The tokens end too early: they are no list of statements, and some list of statements begins with them.
 abbrev pub EndsEarly : ℕ → List Lexeme → Type 0
@@ -42,7 +45,8 @@ EndsEarly n all = Begins n all × ((sts : List Stmt) → File n all sts [] → �
 
 -- this token among them is refused, behind these, for one of two reasons
 abbrev pub StopsAt : ℕ → List Lexeme → List Lexeme → Lexeme → Type 0
-StopsAt n all front bad = (after : List Lexeme) × (all ≡ front ++ bad ∷ after) × IsRefused n front bad × (IsWrong n front bad ⊎ IsTooDeep n front bad)
+StopsAt n all front bad = (after : List Lexeme) × (all ≡ front ++ bad ∷ after) × IsRefused n front bad
+    × (IsWrong n front bad ⊎ IsTooDeep n front bad)
 
 -- some token among them is refused
 abbrev pub Stops : ℕ → List Lexeme → Type 0

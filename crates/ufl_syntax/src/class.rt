@@ -2,6 +2,7 @@ ghost use Rattle.std.specs.Prelude.{◌≡◌};
 ghost use Rattle.std.specs.Str.{bytes_eq};
 ghost use Rattle.ufl_syntax.specs.Classes.{is_keyword_of_two, is_keyword_of_three, is_keyword_of_four, is_keyword_of_five, is_longer_keyword, is_other_keyword, word_class as class_of_word, sign_class as class_of_sign, lexeme_of};
 
+use crate::span::Span;
 use slices::{Tok, TokKind};
 
 /// What a token is to the grammar.
@@ -44,10 +45,11 @@ pub enum Class {
     End,
 }
 
-/// A token with its class.
+/// A token as the grammar sees it: where it stands, its line, counted from 1, and its class.
 #[derive(Clone, Copy, Debug)]
-pub struct Lexeme<'a> {
-    pub tok: Tok<'a>,
+pub struct Lexeme {
+    pub span: Span,
+    pub line: u32,
     pub class: Class,
 }
 
@@ -229,10 +231,10 @@ fn sign_class(sign: &[u8]) -> Class
     Class::Foreign
 }
 
-impl<'a> Lexeme<'a> {
-    /// The token with its class.
+impl Lexeme {
+    /// A token of a form file, without its text.
     #[inline(always)]
-    pub fn new(tok: Tok<'a>) -> Lexeme<'a>
+    pub fn new(tok: Tok<'_>) -> Lexeme
         ensures { result ≡ lexeme_of tok.entry }
     {
         let class = match tok.kind {
@@ -242,6 +244,14 @@ impl<'a> Lexeme<'a> {
             TokKind::Symbol => sign_class(tok.text),
             TokKind::End => Class::End,
         };
-        Lexeme { tok, class }
+        let span = Span {
+            from: tok.from,
+            len: tok.text.len() as u32,
+        };
+        Lexeme {
+            span,
+            line: tok.line,
+            class,
+        }
     }
 }

@@ -6,7 +6,9 @@
 
 mod class;
 pub mod laws;
+mod span;
 mod tree;
 
 pub use class::{Class, Lexeme};
+pub use span::Span;
 pub use tree::{Arg, AssignOp, Next, Post, Stmt, Syn};

@@ -1,7 +1,7 @@
 ghost use Rattle.std.specs.Prelude.{◌≡◌, ◌≢◌, ◌<◌, true, is_some, length};
 ghost use Rattle.ufl_syntax.specs.declared.tree.AssignOp.TheVariants.{ImportAll};
 
-use slices::Tok;
+use crate::span::Span;
 use sqlite_items::{Boxed, Items};
 
 /// What a statement does with its targets.
@@ -19,63 +19,64 @@ pub enum AssignOp {
 
 /// A statement. All but `ImportAll` have a target and a value.
 #[derive(Drop)]
-pub struct Stmt<'a> {
+pub struct Stmt {
     /// The line of its first token, counted from 1.
     pub line: u32,
     /// The names before the sign; none for `ImportAll`.
-    pub targets: Items<Tok<'a>>,
+    pub targets: Items<Span>,
     /// Whether a comma stands among the targets.
     pub unpack: bool,
     pub op: AssignOp,
     /// None for `ImportAll` alone.
-    pub value: Option<Syn<'a>>,
+    pub value: Option<Syn>,
     pub ghost assigned: { op ≢ ImportAll → (0 < length targets) × (is_some value ≡ true) },
 }
 
-/// A value as it is written. Chains of one level are lists, so a tree is no higher than its brackets, signs and `**` nest.
+/// A value as it is written. Chains of one level are lists, so a tree is no higher than its brackets, signs and `**`
+/// nest.
 #[cycle(syn)]
 #[derive(Drop)]
-pub enum Syn<'a> {
-    Name(Tok<'a>),
-    Number(Tok<'a>),
+pub enum Syn {
+    Name(Span),
+    Number(Span),
     /// A string with its quotes.
-    Text(Tok<'a>),
+    Text(Span),
     /// Items with commas between, with the first comma.
-    Tuple(Tok<'a>, Items<Syn<'a>>),
+    Tuple(Span, Items<Syn>),
     /// Items in square brackets, with the `[`.
-    List(Tok<'a>, Items<Syn<'a>>),
+    List(Span, Items<Syn>),
     /// A sign before its operand.
-    Sign(Tok<'a>, Boxed<Syn<'a>>),
+    Sign(Span, Boxed<Syn>),
     /// Operands of `+` and `-`, of `*` and `/`, or the two of one `**`.
-    Binary(Boxed<Syn<'a>>, Items<Next<'a>>),
+    Binary(Boxed<Syn>, Items<Next>),
     /// Calls, indices and attributes of a value that is no such chain, in the order in which they stand.
-    Postfix(Boxed<Syn<'a>>, Items<Post<'a>>),
+    Postfix(Boxed<Syn>, Items<Post>),
 }
 
 /// An operator and the operand to its right.
 #[cycle(syn)]
 #[derive(Drop)]
-pub struct Next<'a> {
-    pub op: Tok<'a>,
-    pub right: Syn<'a>,
+pub struct Next {
+    pub op: Span,
+    pub right: Syn,
 }
 
 /// What follows a value.
 #[cycle(syn)]
 #[derive(Drop)]
-pub enum Post<'a> {
+pub enum Post {
     /// A call, with its `(`.
-    Call(Tok<'a>, Items<Arg<'a>>),
+    Call(Span, Items<Arg>),
     /// An index, with its `[`.
-    Index(Tok<'a>, Boxed<Syn<'a>>),
+    Index(Span, Boxed<Syn>),
     /// An attribute: its name.
-    Attr(Tok<'a>),
+    Attr(Span),
 }
 
 /// An argument of a call, with its keyword if it has one.
 #[cycle(syn)]
 #[derive(Drop)]
-pub struct Arg<'a> {
-    pub name: Option<Tok<'a>>,
-    pub value: Syn<'a>,
+pub struct Arg {
+    pub name: Option<Span>,
+    pub value: Syn,
 }

@@ -1,6 +1,5 @@
 -- A weight that isn't refused is admitted
 use Rattle.std.proofs.Common.{◌≡◌, ℕ, ◌^◌, ◌<◌, ◌≤◌, ◌||◌, Bool, true, false, nat_lt, nat_le, if◌then◌else◌, None, Some, refl, ap, ◌∙◌, arith}
-use native.Mathlib.Nat as N
 use Rattle.std.proofs.lemmas.Bool.Decides.{nat_tests}
 use Rattle.ufl_tree.specs.Places.{Table}
 use Rattle.ufl_tree.specs.FormTerm.{FormTerm}

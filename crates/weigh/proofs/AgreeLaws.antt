@@ -88,14 +88,7 @@ kept_over : (l n : ℕ) → l < 2 ^ 100 → l < n → l < kept n
 kept_over l n h k = omega arith
 
 pub kept_positives : (w : Weight) → IsPositive w → IsPositive (capped kept w)
-kept_positives w p = record {
-  cost = kept_positive w.cost p.cost;
-  g = kept_positive w.g p.g;
-  num = kept_positive w.num p.num;
-  den = kept_positive w.den p.den;
-  fac = kept_positive w.fac p.fac;
-  s = kept_positive w.s p.s;
-}
+kept_positives w p = record { cost = kept_positive _ p.cost; g = kept_positive _ p.g; num = kept_positive _ p.num; den = kept_positive _ p.den; fac = kept_positive _ p.fac; s = kept_positive _ p.s }
 
 kept_costly : (w : Weight) → IsCostly w → IsCostly (capped kept w)
 kept_costly w (inl h) = inl (kept_over (2 ^ 20) w.cost (omega arith) h)

@@ -123,19 +123,25 @@ pub plus_bounds : (w e v d : Weight) → IsSound e → Bounds w e → Bounds v d
 plus_bounds = both_bounds (λ m n. m + n) sum_even
 
 -- ---- one operand
-pub index_bounds : (n m : ℕ) → m ≤ n → (w e : Weight) → Bounds w e → Bounds (index_step n w) (index_step m e)
-index_bounds n m p w e h = record {
-  cost = N.mul-le-mul h.cost (omega (arith, p));
+-- a step that changes the cost, the labels, the numerator and the least order alone
+pub changed_bounds : (w e : Weight) (wc ec wg eg wn en wr er : ℕ) → Bounds w e → ec ≤ wc → eg ≤ wg → en * w.den ≤ wn * e.den → wr ≤ er
+    → Bounds (record w { cost = wc; g = wg; num = wn; rmin = wr }) (record e { cost = ec; g = eg; num = en; rmin = er })
+changed_bounds w e wc ec wg eg wn en wr er h c g n r = record {
+  cost = c;
   deg = h.deg;
-  g = h.g;
+  g = g;
   f = h.f;
-  rmin = h.rmin;
+  rmin = r;
   rmax = h.rmax;
   s = h.s;
   den = h.den;
   fac = h.fac;
-  num = h.num;
+  num = n;
 }
+
+pub index_bounds : (n m : ℕ) → m ≤ n → (w e : Weight) → Bounds w e → Bounds (index_step n w) (index_step m e)
+index_bounds n m p w e h =
+    changed_bounds w e (w.cost * max n 1) (e.cost * max m 1) w.g e.g w.num e.num w.rmin e.rmin h (N.mul-le-mul h.cost (omega (arith, p))) h.g h.num h.rmin
 
 pub space_bounds : (n m : ℕ) → m ≤ n → (w e : Weight) → Bounds w e → Bounds (space_step n w) (space_step m e)
 space_bounds n m p w e h = record {
@@ -158,46 +164,17 @@ grown en ed eg wn wd wg p h = through (N.mul-le-mul h p)
     through a = omega (arith, a)
 
 pub linear_bounds : (w e : Weight) → Bounds w e → Bounds (linear_step w) (linear_step e)
-linear_bounds w e h = record {
-  cost = N.mul-le-mul h.cost h.g;
-  deg = h.deg;
-  g = h.g;
-  f = h.f;
-  rmin = N.le_refl 0;
-  rmax = h.rmax;
-  s = h.s;
-  den = h.den;
-  fac = h.fac;
-  num = grown e.num e.den e.g w.num w.den w.g h.g h.num;
-}
+linear_bounds w e h =
+    changed_bounds w e (w.cost * w.g) (e.cost * e.g) w.g e.g (w.num * w.g) (e.num * e.g) 0 0 h
+    (N.mul-le-mul h.cost h.g) h.g (grown e.num e.den e.g w.num w.den w.g h.g h.num) (N.le_refl 0)
 
 pub label_bounds : (n m : ℕ) → m ≤ n → (w e : Weight) → Bounds w e → Bounds (label_step n w) (label_step m e)
-label_bounds n m p w e h = record {
-  cost = h.cost;
-  deg = h.deg;
-  g = (let a = h.g in omega (arith, a, p));
-  f = h.f;
-  rmin = h.rmin;
-  rmax = h.rmax;
-  s = h.s;
-  den = h.den;
-  fac = h.fac;
-  num = h.num;
-}
+label_bounds n m p w e h =
+    changed_bounds w e w.cost e.cost (w.g + max n 1) (e.g + max m 1) w.num e.num w.rmin e.rmin h
+    h.cost (let a = h.g in omega (arith, a, p)) h.num h.rmin
 
 pub part_bounds : (w e : Weight) → Bounds w e → Bounds (part_step w) (part_step e)
-part_bounds w e h = record {
-  cost = h.cost;
-  deg = h.deg;
-  g = h.g;
-  f = h.f;
-  rmin = N.le_refl 0;
-  rmax = h.rmax;
-  s = h.s;
-  den = h.den;
-  fac = h.fac;
-  num = h.num;
-}
+part_bounds w e h = changed_bounds w e w.cost e.cost w.g e.g w.num e.num 0 0 h h.cost h.g h.num (N.le_refl 0)
 
 -- ---- a list bounds each item
 item_parts : (n d l x : ℕ) → d ∣ l → n * (l / d) ≤ x → n * l ≤ x * d

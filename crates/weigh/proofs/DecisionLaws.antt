@@ -11,7 +11,8 @@ use Rattle.weigh.specs.declared.refusal.WeightRefusal.TheVariants.{Cost, Size}
 use Rattle.weigh.specs.Weighing.{exact, kept, form_weight}
 use Rattle.weigh.specs.Refusals.{size, weight_refusal, IsCostly, IsLarge, Agree, HasLowDegrees, KeptDecides}
 use Rattle.weigh.proofs.AgreeLaws.{IsPositive, Agrees, positive_from_sound}
-use Rattle.weigh.proofs.WeighLaws.{factorial_positive, form_agrees}
+use Rattle.calculus.proofs.Nodes.{factorial_positive}
+use Rattle.weigh.proofs.WeighLaws.{form_agrees}
 
 below_test : (m n : ℕ) → m < n → nat_lt m n ≡ true
 below_test m n h = grind (arith, nat_tests)

@@ -68,18 +68,22 @@ plus_sound = both_sound (λ m n. m + n) sum_put
 few_times : (ra rb na nb : ℕ) → ra < na → rb < nb → ra + rb < na * nb
 few_times ra rb na nb p q = let h : suc ra * suc rb ≤ na * nb = N.mul-le-mul p q in omega (arith, h)
 
-pub number_sound : (n m : ℕ) → 1 ≤ m → IsSound (number_step n m)
-number_sound n m p = record {
+-- a number n/m, or a function, under some labels
+pub leaf_sound : (f g n m : ℕ) → f ≤ g → 1 ≤ g → 1 ≤ m → m ≤ n → IsSound (record (number_step n m) { g = g; f = f; num = n })
+leaf_sound f g n m l h p k = record {
   cost = omega arith;
-  g = omega arith;
+  g = h;
   den = p;
   fac = omega arith;
   s = omega arith;
-  parts = omega arith;
-  functions = omega arith;
+  parts = k;
+  functions = l;
   derivatives = omega arith;
   few = omega arith;
 }
+
+pub number_sound : (n m : ℕ) → 1 ≤ m → IsSound (number_step n m)
+number_sound n m p = leaf_sound 0 1 (max n m) m (omega arith) (omega arith) p (omega arith)
 
 pub times_sound : (a b : Weight) → IsSound a → IsSound b → IsSound (times_step a b)
 times_sound a b p q = record {
@@ -94,18 +98,24 @@ times_sound a b p q = record {
   few = few_times a.rmax b.rmax a.num b.num p.few q.few;
 }
 
-pub index_sound : (n : ℕ) (a : Weight) → IsSound a → IsSound (index_step n a)
-index_sound n a p = record {
-  cost = N.mul-pos p.cost (omega arith);
-  g = p.g;
+-- a step that changes the cost, the labels, the numerator and the least order alone
+changed_sound : (a : Weight) (cost g num rmin : ℕ) → IsSound a → 1 ≤ cost → a.g ≤ g → a.num ≤ num → rmin ≤ a.rmax
+    → IsSound (record a { cost = cost; g = g; num = num; rmin = rmin })
+changed_sound a cost g num rmin p c l n r = record {
+  cost = c;
+  g = above 1 a.g g p.g l;
   den = p.den;
   fac = p.fac;
   s = p.s;
-  parts = p.parts;
-  functions = p.functions;
-  derivatives = p.derivatives;
-  few = p.few;
+  parts = above a.den a.num num p.parts n;
+  functions = above a.f a.g g p.functions l;
+  derivatives = r;
+  few = above (suc a.rmax) a.num num p.few n;
 }
+
+pub index_sound : (n : ℕ) (a : Weight) → IsSound a → IsSound (index_step n a)
+index_sound n a p =
+    changed_sound a (a.cost * max n 1) a.g a.num a.rmin p (N.mul-pos p.cost (omega arith)) (N.le_refl a.g) (N.le_refl a.num) p.derivatives
 
 pub space_sound : (d : ℕ) → 1 ≤ d → (a : Weight) → IsSound a → IsSound (space_step d a)
 space_sound d h a p = record {
@@ -122,41 +132,10 @@ space_sound d h a p = record {
 
 pub linear_sound : (a : Weight) → IsSound a → IsSound (linear_step a)
 linear_sound a p =
-    let h : a.num ≤ a.num * a.g = N.le-mul_of_pos_right a.num p.g in
-    record {
-      cost = N.mul-pos p.cost p.g;
-      g = p.g;
-      den = p.den;
-      fac = p.fac;
-      s = p.s;
-      parts = above a.den a.num (a.num * a.g) p.parts h;
-      functions = p.functions;
-      derivatives = omega arith;
-      few = above (suc a.rmax) a.num (a.num * a.g) p.few h;
-    }
+    changed_sound a (a.cost * a.g) a.g (a.num * a.g) 0 p (N.mul-pos p.cost p.g) (N.le_refl a.g) (N.le-mul_of_pos_right a.num p.g) (omega arith)
 
 pub label_sound : (n : ℕ) (a : Weight) → IsSound a → IsSound (label_step n a)
-label_sound n a p = record {
-  cost = p.cost;
-  g = let k = p.g in omega (arith, k);
-  den = p.den;
-  fac = p.fac;
-  s = p.s;
-  parts = p.parts;
-  functions = let k = p.functions in omega (arith, k);
-  derivatives = p.derivatives;
-  few = p.few;
-}
+label_sound n a p = changed_sound a a.cost (a.g + max n 1) a.num a.rmin p p.cost (omega arith) (N.le_refl a.num) p.derivatives
 
 pub part_sound : (a : Weight) → IsSound a → IsSound (part_step a)
-part_sound a p = record {
-  cost = p.cost;
-  g = p.g;
-  den = p.den;
-  fac = p.fac;
-  s = p.s;
-  parts = p.parts;
-  functions = p.functions;
-  derivatives = omega arith;
-  few = p.few;
-}
+part_sound a p = changed_sound a a.cost a.g a.num 0 p p.cost (N.le_refl a.g) (N.le_refl a.num) (omega arith)

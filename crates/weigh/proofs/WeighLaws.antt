@@ -6,6 +6,7 @@ use Rattle.algebra.proofs.LowestLaws.{bottom_positive}
 use Rattle.ratio.specs.declared.reduced.Ratio.{Ratio}
 use Rattle.ratio.specs.Value.{fraction_of}
 use Rattle.calculus.specs.LocalFunction.{factorial}
+use Rattle.calculus.proofs.Nodes.{factorial_positive}
 use Rattle.spaces.specs.declared.cell.Cell.{Cell}
 use Rattle.spaces.specs.declared.cell.Cell.TheVariants.{Interval, Triangle, Tetrahedron}
 use Rattle.spaces.specs.Scalar.{Scalar}
@@ -17,7 +18,7 @@ use Rattle.ufl_tree.specs.declared.tree.Op2.{Op2}
 use Rattle.ufl_tree.specs.declared.tree.Op2.TheVariants.{Sum, Product, Dot, Inner, Outer, Cross}
 use Rattle.ufl_tree.specs.Places.{Table}
 use Rattle.ufl_tree.specs.Indices.{first_size, last_size, named, direction, repeated}
-use Rattle.ufl_meaning.specs.Operators.{summed}
+use Rattle.monos.specs.Summed.{summed}
 use Rattle.ufl_tree.specs.Typed.{Typed, number, identity, function, piece, one, two, power, index, partial, tensor, list, variable, diff, TypedList, no_items, item, own_kind, shape_of, free_of}
 use Rattle.ufl_tree.specs.FormTerm.{FormTerm, integral, sum, scale, left, right, action, adjoint, derivative}
 use Rattle.monos.specs.declared.weight.Weight.{Weight}
@@ -26,27 +27,13 @@ use Rattle.weigh.specs.Steps.{capped, times_step, join_step, plus_step, index_st
 use Rattle.weigh.specs.Weighing.{exact, kept, parts_weight, scalars_in, function_weight, directions, number_weight, one_weight, share_weight, times_weight, power_weight, names_weight, sizes_weight, curl_weight, dot_weight, product_weight, one_operand, two_operands, weight_with, list_weight, form_weight}
 use Rattle.weigh.specs.Refusals.{AreLow, HasLowDegrees}
 use Rattle.weigh.proofs.LcmLaws.{lcm_positive}
-use Rattle.weigh.proofs.SoundLaws.{number_sound}
+use Rattle.weigh.proofs.SoundLaws.{leaf_sound, number_sound}
 use Rattle.weigh.proofs.AgreeLaws.{IsLow, IsStep, IsPairStep, Agrees, kept_agrees, step_agrees, pair_agrees}
 use Rattle.weigh.proofs.StepLaws.{times_pair, join_pair, plus_pair, index_one, space_one, linear_one, label_one, part_one}
 
 -- ---- leaves
-pub factorial_positive : (n : ℕ) → 1 ≤ factorial n
-factorial_positive zero = omega arith
-factorial_positive (suc n) = N.mul-pos (N.zero-lt-suc n) (factorial_positive n)
-
 pub parts_sound : (ps : List Scalar) → IsSound (parts_weight ps)
-parts_sound [] = record {
-  cost = omega arith;
-  g = omega arith;
-  den = omega arith;
-  fac = omega arith;
-  s = omega arith;
-  parts = omega arith;
-  functions = omega arith;
-  derivatives = omega arith;
-  few = omega arith;
-}
+parts_sound [] = leaf_sound 1 1 1 1 (omega arith) (omega arith) (omega arith) (omega arith)
 parts_sound (p ∷ ps) = let h = parts_sound ps in let c = h.cost in let s = h.s in record {
   cost = omega (arith, c);
   g = h.g;

@@ -7,3 +7,4 @@ pub mod Bounds
 pub mod Numerators
 pub mod Lists
 pub mod Examples
+pub mod Prelude

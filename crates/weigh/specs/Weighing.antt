@@ -16,7 +16,7 @@ use Rattle.ufl_tree.specs.declared.tree.Op2.{Op2}
 use Rattle.ufl_tree.specs.declared.tree.Op2.TheVariants.{Sum, Product, Dot, Inner, Outer, Cross}
 use Rattle.ufl_tree.specs.Places.{Table}
 use Rattle.ufl_tree.specs.Indices.{first_size, last_size, named, direction, repeated}
-use Rattle.ufl_meaning.specs.Operators.{summed}
+use Rattle.monos.specs.Summed.{summed}
 use Rattle.ufl_tree.specs.Typed.{Typed, number, identity, function, piece, one, two, power, index, partial, tensor, list, variable, diff, TypedList, no_items, item, own_kind, shape_of, free_of}
 use Rattle.ufl_tree.specs.FormTerm.{FormTerm, integral, sum, scale, left, right, action, adjoint, derivative}
 use Rattle.monos.specs.declared.weight.Weight.{Weight}

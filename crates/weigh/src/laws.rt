@@ -2,23 +2,16 @@
 
 ghost use Rattle.std.specs.Prelude.{◌≡◌, ◌≤◌, ◌+◌, ◌*◌, ℕ, List, [], ◌∷◌, ◌++◌, None, Some, IsPermutation, unsigned_abs};
 ghost use Rattle.algebra.specs.LowestTerms.{top, bottom};
-ghost use Rattle.spaces.specs.declared.cell.Cell.{Cell};
-ghost use Rattle.ufl_tree.specs.declared.function.Function.{Function};
-ghost use Rattle.ufl_tree.specs.FormTerm.{FormTerm};
-ghost use Rattle.ufl_tree.specs.Places.{Table};
-ghost use Rattle.ufl_tree.specs.Term.{Term};
-ghost use Rattle.ufl_tree.specs.Typed.{Typed};
+ghost use Rattle.monos.specs.Prelude.{Cell, Function, FormTerm, Table, Term, Typed, Monomial};
 ghost use Rattle.monos.specs.declared.weight.Weight.{Weight};
-ghost use Rattle.monos.specs.Monomial.{Monomial};
+ghost use Rattle.weigh.specs.Prelude.{Bounds, IsSound, HasWeight, IsLawfulTable, term_weight, exact, weight_with};
 ghost use Rattle.weigh.specs.declared.refusal.WeightRefusal.TheVariants.{Cost};
 ghost use Rattle.weigh.specs.Admitted.{IsAdmitted};
-ghost use Rattle.weigh.specs.Bounds.{Bounds, IsSound};
 ghost use Rattle.weigh.specs.Examples.{cost_and_size, line_table, mass_tree, plane_table, laplacian_tree, constant_table, powered_tree, position_table, position, position_weight};
-ghost use Rattle.weigh.specs.Lists.{IsWeighed, HasWeight, AllProducts, AllDerived, AreNegated, IsMerged, lists_below};
-ghost use Rattle.weigh.specs.Refusals.{IsLawfulTable, KeptDecides, weight_refusal};
+ghost use Rattle.weigh.specs.Lists.{IsWeighed, AllProducts, AllDerived, AreNegated, IsMerged, lists_below};
+ghost use Rattle.weigh.specs.Refusals.{KeptDecides, weight_refusal};
 ghost use Rattle.weigh.specs.Steps.{number_step, times_step, join_step, plus_step, index_step, space_step, linear_step, label_step, part_step};
-ghost use Rattle.weigh.specs.Terms.{term_weight};
-ghost use Rattle.weigh.specs.Weighing.{exact, kept, weight_with, function_weight, form_weight};
+ghost use Rattle.weigh.specs.Weighing.{kept, function_weight, form_weight};
 
 /// Numbers kept within 127 bits refuse exactly the forms that exact ones do, and where they refuse none they are the exact ones.
 /// What is not refused is within the limits, and has the order of its numbers that later bounds rest on.

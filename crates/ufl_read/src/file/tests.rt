@@ -1,7 +1,7 @@
 // Texts, each with its statements in short form or its refusal.
 
 use super::*;
-use crate::{Arg, AssignOp, Next, Post, Syn};
+use crate::{Arg, AssignOp, Next, Post, Span, Syn};
 use std::io::Write;
 use std::test::Fail;
 
@@ -10,123 +10,129 @@ fn put(out: &mut Vec<u8>, bytes: &[u8]) {
     let _ = out.extend_from_slice(bytes);
 }
 
+// The bytes of a token.
+fn put_token(out: &mut Vec<u8>, file: &[u8], token: Span) {
+    let rest = file.get(token.from as usize..).unwrap_or(&[]);
+    put(out, rest.get(..token.len as usize).unwrap_or(&[]));
+}
+
 // `(..)` is a tuple, `[..]` a list, `{..}` a chain and `<..>` a sign with its operand.
 #[cycle(shown)]
-fn show(out: &mut Vec<u8>, value: &Syn<'_>, room: u32) {
+fn show(out: &mut Vec<u8>, file: &[u8], value: &Syn, room: u32) {
     if room == 0 {
         return;
     }
     match value {
-        Syn::Name(token) | Syn::Number(token) | Syn::Text(token) => put(out, token.text),
+        Syn::Name(token) | Syn::Number(token) | Syn::Text(token) => put_token(out, file, *token),
         Syn::Tuple(_, items) => {
             put(out, b"(");
-            show_items(out, items.as_slice(), room - 1);
+            show_items(out, file, items.as_slice(), room - 1);
             put(out, b")");
         }
         Syn::List(_, items) => {
             put(out, b"[");
-            show_items(out, items.as_slice(), room - 1);
+            show_items(out, file, items.as_slice(), room - 1);
             put(out, b"]");
         }
         Syn::Sign(op, inner) => {
             put(out, b"<");
-            put(out, op.text);
-            show(out, inner.get(), room - 1);
+            put_token(out, file, *op);
+            show(out, file, inner.get(), room - 1);
             put(out, b">");
         }
         Syn::Binary(first, chain) => {
             put(out, b"{");
-            show(out, first.get(), room - 1);
-            show_chain(out, chain.as_slice(), room - 1);
+            show(out, file, first.get(), room - 1);
+            show_chain(out, file, chain.as_slice(), room - 1);
             put(out, b"}");
         }
         Syn::Postfix(first, all) => {
             put(out, b"{");
-            show(out, first.get(), room - 1);
-            show_posts(out, all.as_slice(), room - 1);
+            show(out, file, first.get(), room - 1);
+            show_posts(out, file, all.as_slice(), room - 1);
             put(out, b"}");
         }
     }
 }
 
 #[cycle(shown)]
-fn show_items(out: &mut Vec<u8>, items: &[Syn<'_>], room: u32) {
+fn show_items(out: &mut Vec<u8>, file: &[u8], items: &[Syn], room: u32) {
     if room == 0 {
         return;
     }
     for item in items {
-        show(out, item, room - 1);
+        show(out, file, item, room - 1);
         put(out, b" ");
     }
 }
 
 #[cycle(shown)]
-fn show_chain(out: &mut Vec<u8>, chain: &[Next<'_>], room: u32) {
+fn show_chain(out: &mut Vec<u8>, file: &[u8], chain: &[Next], room: u32) {
     if room == 0 {
         return;
     }
     for next in chain {
-        put(out, next.op.text);
-        show(out, &next.right, room - 1);
+        put_token(out, file, next.op);
+        show(out, file, &next.right, room - 1);
     }
 }
 
 #[cycle(shown)]
-fn show_args(out: &mut Vec<u8>, args: &[Arg<'_>], room: u32) {
+fn show_args(out: &mut Vec<u8>, file: &[u8], args: &[Arg], room: u32) {
     if room == 0 {
         return;
     }
     for arg in args {
         if let Some(name) = arg.name {
-            put(out, name.text);
+            put_token(out, file, name);
             put(out, b"=");
         }
-        show(out, &arg.value, room - 1);
+        show(out, file, &arg.value, room - 1);
         put(out, b" ");
     }
 }
 
 #[cycle(shown)]
-fn show_post(out: &mut Vec<u8>, post: &Post<'_>, room: u32) {
+fn show_post(out: &mut Vec<u8>, file: &[u8], post: &Post, room: u32) {
     if room == 0 {
         return;
     }
     match post {
         Post::Call(_, args) => {
             put(out, b"(");
-            show_args(out, args.as_slice(), room - 1);
+            show_args(out, file, args.as_slice(), room - 1);
             put(out, b")");
         }
         Post::Index(_, inner) => {
             put(out, b"[");
-            show(out, inner.get(), room - 1);
+            show(out, file, inner.get(), room - 1);
             put(out, b"]");
         }
         Post::Attr(name) => {
             put(out, b".");
-            put(out, name.text);
+            put_token(out, file, *name);
         }
     }
 }
 
 #[cycle(shown)]
-fn show_posts(out: &mut Vec<u8>, all: &[Post<'_>], room: u32) {
+fn show_posts(out: &mut Vec<u8>, file: &[u8], all: &[Post], room: u32) {
     if room == 0 {
         return;
     }
     for post in all {
-        show_post(out, post, room - 1);
+        show_post(out, file, post, room - 1);
     }
 }
 
-fn show_statement(out: &mut Vec<u8>, statement: &Stmt<'_>) -> Result<(), Fail> {
+fn show_statement(out: &mut Vec<u8>, file: &[u8], statement: &Stmt) -> Result<(), Fail> {
     write!(out, "{}", statement.line)?;
     if statement.unpack {
         put(out, b" unpack");
     }
     for target in statement.targets.as_slice() {
         put(out, b" ");
-        put(out, target.text);
+        put_token(out, file, *target);
     }
     let sign = match statement.op {
         AssignOp::Set => " = ",
@@ -136,7 +142,7 @@ fn show_statement(out: &mut Vec<u8>, statement: &Stmt<'_>) -> Result<(), Fail> {
     };
     put(out, sign.as_bytes());
     if let Some(value) = &statement.value {
-        show(out, value, 1000);
+        show(out, file, value, 1000);
     }
     put(out, b";");
     Ok(())
@@ -147,16 +153,15 @@ fn show_file(alloc: Global, text: &[u8]) -> Result<Vec<u8>, Fail> {
     match read_file(alloc, text) {
         Ok(statements) => {
             for statement in statements.as_slice() {
-                show_statement(&mut out, statement)?;
+                show_statement(&mut out, text, statement)?;
             }
         }
         Err(refusal) => {
             write!(out, "{:?} {}", refusal.kind, refusal.line)?;
-            let rest = text.get(refusal.from as usize..).unwrap_or(&[]);
-            let word = rest.get(..refusal.len as usize).unwrap_or(&[]);
-            if !word.is_empty() {
+            if refusal.len > 0 {
                 put(&mut out, b" ");
-                put(&mut out, word);
+                let (from, len) = (refusal.from, refusal.len);
+                put_token(&mut out, text, Span { from, len });
             }
         }
     }
@@ -379,7 +384,7 @@ fn counts_what_is_open(rt: HostRuntime) -> Result<(), Fail> {
 #[test]
 fn refuses_long_files(rt: HostRuntime) -> Result<(), Fail> {
     let mut text = nested(rt.alloc(), "", "b", "", 0)?;
-    for _ in 5..LIMIT {
+    for _ in 5..FORM_LIMIT {
         put(&mut text, b" ");
     }
     assert!(rt; read_file(rt.alloc(), text.as_slice()).is_ok());

@@ -3,7 +3,7 @@ use Rattle.tree_values.specs.Value.{summed_at}
 use Rattle.tree_values.proofs.NodeLaws.{read-Number, read-Identity, read-Fun, read-Piece, read-One, read-Power, read-Tensor, read-List, read-Variable, read-Diff, summed_two, summed_index, summed_partial}
 use Rattle.std.proofs.Common.{[], ◌∷◌}
 use Rattle.ufl_tree.specs.Indices.{repeated, named, cell_size}
-use Rattle.ufl_meaning.specs.Operators.{summed}
+use Rattle.monos.specs.Summed.{summed}
 use Rattle.tree_values.proofs.ResultLaws.{ok_same}
 use Rattle.tree_values.proofs.summed.summed.Goals as goal
 

@@ -2,10 +2,4 @@ use Rattle.ufl_meaning.proofs.EnvironmentLaws.{raised_only_used, turned_only_use
 use Rattle.ufl_meaning.proofs.laws.parameters.Goals as goal
 
 pub returns : goal.returns
-returns c = record {
-  raised = raised_only_used;
-  turned = turned_only_used;
-  scaled = scaled_only_used;
-  with_function = with_function_only_used;
-  exchanged = exchanged_only_used;
-}
+returns c = record { raised = raised_only_used; turned = turned_only_used; scaled = scaled_only_used; with_function = with_function_only_used; exchanged = exchanged_only_used }

@@ -9,11 +9,11 @@ pub returns-in-Err-clause-refused : goal.returns-in-Err-clause-refused
 returns-in-Err-clause-refused c =
     let t = c.in_ok-lexemes.ensures in
     subst (λ e. IsFormRefusal c.args.text.now e) (sym c.refusal_of.ensures)
-    (refused c.args.text.now t.0 c.in-Err.fault c.in_ok-lexemes.lost c.as_slice-tokens.result.now (omega (arith, c.if-text-gt-LIMIT.false)) t.1 (c.as_slice-tokens.ensures ∙ t.2) c.in-Err.ensures.refused)
+    (refused c.args.text.now t.0 c.in-Err.fault c.in_ok-lexemes.lost c.as_slice-tokens.result.now (omega (arith, c.if-text.false)) t.1 (c.as_slice-tokens.ensures ∙ t.2) c.in-Err.ensures.refused)
 
 pub returns-clause-refused : goal.returns-clause-refused
 returns-clause-refused c =
     let t = c.in_ok-lexemes.ensures in
     subst (λ e. IsFormRefusal c.args.text.now e) (sym (c.refusal_of-in-Some.ensures ∙ ap (refusal_for c.as_slice-tokens.result.now f.Short) c.in-Some.is))
-    (lost_after c.args.text.now t.0 c.in-Some.field-0 c.as_slice-tokens.result.now c.in-Ok.statements (omega (arith, c.if-text-gt-LIMIT.false))
+    (lost_after c.args.text.now t.0 c.in-Some.field-0 c.as_slice-tokens.result.now c.in-Ok.statements (omega (arith, c.if-text.false))
     (subst (λ e. Scan (form_begins c.args.text.now) t.0 e) c.in-Some.is t.1) (c.as_slice-tokens.ensures ∙ t.2) c.in-Ok.ensures.found)

@@ -41,14 +41,14 @@ atom-returns-in_err-_close-in-Open t c =
 pub atom-returns-in-Name : goal.atom-returns-in-Name
 atom-returns-in-Name t c = (
   omega arith,
-  subst (λ ts. Atom c.args.room ts (s.Name c.in-Some.first.tok) (drop (c.args.at + 1) c.args.tokens.now)) (sym c.in-Some.ensures.0) (a_name c.in-Name.is),
+  subst (λ ts. Atom c.args.room ts (s.Name c.in-Some.first.span) (drop (c.args.at + 1) c.args.tokens.now)) (sym c.in-Some.ensures.0) (a_name c.in-Name.is),
   λ stack. take_at (an_atom c.args.room) stack _ c.in-Some.first _ [] c.in-Some.ensures.0 (ap (λ j. part_on (an_atom c.args.room) j) c.in-Name.is),
 )
 
 pub atom-returns-in-Number : goal.atom-returns-in-Number
 atom-returns-in-Number t c = (
   omega arith,
-  subst (λ ts. Atom c.args.room ts (s.Number c.in-Some.first.tok) (drop (c.args.at + 1) c.args.tokens.now)) (sym c.in-Some.ensures.0) (a_number c.in-Number.is),
+  subst (λ ts. Atom c.args.room ts (s.Number c.in-Some.first.span) (drop (c.args.at + 1) c.args.tokens.now)) (sym c.in-Some.ensures.0) (a_number c.in-Number.is),
   λ stack. take_at (an_atom c.args.room) stack _ c.in-Some.first _ [] c.in-Some.ensures.0 (ap (λ j. part_on (an_atom c.args.room) j) c.in-Number.is),
 )
 
@@ -149,7 +149,7 @@ sum-all-preserved t c =
     let right = c.in_ok-right.ensures in
     let is_add = sym c.signs.ensures ∙ c.if-not-signs.false in (
       omega (arith, c.all.invariant.0, right.0),
-      λ ns rest h. added_at c.args.room _ _ _ _ _ _ _ _ _ _ c.in_ok-push.ensures.ok c.in-Some.ensures.0 is_add right.1 h (c.all.invariant.1 _ rest),
+      λ ns rest h. added_at c.args.room _ _ _ _ _ _ _ _ _ _ c.in_ok-add.ensures c.in-Some.ensures.0 is_add right.1 h (c.all.invariant.1 _ rest),
       λ stack. c.all.invariant.2 stack
           ∙ take_at (adds c.args.room) stack _ c.in-Some.op _ (a_term c.args.room ∷ adds c.args.room ∷ []) c.in-Some.ensures.0 (add_on c.args.room c.in-Some.op.class is_add)
           ∙ right.2 (adds c.args.room ∷ stack),
@@ -161,7 +161,7 @@ long_term-all-preserved t c =
     let right = c.in_ok-right.ensures in
     let is_add = sym c.factors.ensures ∙ c.if-not-factors.false in (
       omega (arith, c.all.invariant.0, right.0),
-      λ ns rest h. multiplied_at c.args.room _ _ _ _ _ _ _ _ _ _ c.in_ok-push.ensures.ok c.in-Some.ensures.0 is_add right.1 h (c.all.invariant.1 _ rest),
+      λ ns rest h. multiplied_at c.args.room _ _ _ _ _ _ _ _ _ _ c.in_ok-add.ensures c.in-Some.ensures.0 is_add right.1 h (c.all.invariant.1 _ rest),
       λ stack. c.all.invariant.2 stack
           ∙ take_at (muls c.args.room) stack _ c.in-Some.op _ (a_signed c.args.room ∷ muls c.args.room ∷ []) c.in-Some.ensures.0 (mul_on c.args.room c.in-Some.op.class is_add)
           ∙ right.2 (muls c.args.room ∷ stack),
@@ -207,7 +207,7 @@ value-returns t c =
     let first = c.in_ok-first.ensures in
     let items = c.in_ok-items.ensures in (
       omega (arith, first.0, items.0),
-      tuple_at c.args.room _ _ _ _ c.in-Some.comma _ _ _ _ _ first.1 c.in-Some.ensures.0 (same_is k.Comma c.in-Some.comma.class (sym c.same.ensures ∙ c.if-not-same.false)) items.1.1 items.1.2 c.in_ok-push.ensures.ok c.new-before.ensures,
+      tuple_at c.args.room _ _ _ _ c.in-Some.comma _ _ _ _ _ first.1 c.in-Some.ensures.0 (same_is k.Comma c.in-Some.comma.class (sym c.same.ensures ∙ c.if-not-same.false)) items.1.1 items.1.2 c.in_ok-add.ensures c.new-before.ensures,
       λ stack. value_begins c.args.room stack _ ∙ first.2 (after_sum c.args.room ∷ stack)
           ∙ take_at (after_sum c.args.room) stack _ c.in-Some.comma _ (a_later c.args.room ∷ []) c.in-Some.ensures.0 (ap (comma_on (a_later c.args.room)) (sym (same_is k.Comma c.in-Some.comma.class (sym c.same.ensures ∙ c.if-not-same.false))))
           ∙ items.2 stack,
@@ -276,7 +276,7 @@ signed-returns t c =
     let base = c.in_ok-base.ensures in
     let right = c.in_ok-right.ensures in (
       omega (arith, base.0, right.0),
-      power_at c.args.room c.in_ok-inside-2.inside _ _ _ _ c.in-Some-peek.op _ _ _ _ _ c.in_ok-inside-2.ensures base.1 c.in-Some-peek.ensures.0 (same_is k.Power c.in-Some-peek.op.class (sym c.same.ensures ∙ c.if-not-same.false)) right.1 c.in_ok-new-2.ensures c.in_ok-push.ensures.ok c.new-chain.ensures,
+      power_at c.args.room c.in_ok-inside-2.inside _ _ _ _ c.in-Some-peek.op _ _ _ _ _ c.in_ok-inside-2.ensures base.1 c.in-Some-peek.ensures.0 (same_is k.Power c.in-Some-peek.op.class (sym c.same.ensures ∙ c.if-not-same.false)) right.1 c.in_ok-new-2.ensures c.in_ok-add.ensures c.new-chain.ensures,
       λ stack. plain_at c.args.room stack _ c.in-Some.first _ c.in-Some.ensures.0 (sym c.signs.ensures ∙ c.if-signs.false) ∙ base.2 (a_power c.args.room ∷ stack) ∙ take_at (a_power c.args.room) stack _ c.in-Some-peek.op _ (a_signed c.in_ok-inside-2.inside ∷ []) c.in-Some-peek.ensures.0 (power_open c.args.room c.in_ok-inside-2.inside c.in-Some-peek.op.class c.in_ok-inside-2.ensures (same_is k.Power c.in-Some-peek.op.class (sym c.same.ensures ∙ c.if-not-same.false))) ∙ right.2 stack,
     )
 
@@ -316,7 +316,7 @@ pub postfix-all-preserved : goal.postfix-all-preserved
 postfix-all-preserved t c =
     let one = c.in_ok-one.ensures in (
       omega (arith, c.all.invariant.0, one.0),
-      λ ps rest h. posted_at c.args.room _ _ _ _ _ _ _ _ c.in_ok-push.ensures.ok one.1 h (c.all.invariant.1 _ rest),
+      λ ps rest h. posted_at c.args.room _ _ _ _ _ _ _ _ c.in_ok-add.ensures one.1 h (c.all.invariant.1 _ rest),
       λ stack. c.all.invariant.2 stack ∙ posts_begins c.args.room stack _ (heads_at is_post true _ c.in-Some.next _ c.in-Some.ensures.0 (sym c.follows.ensures ∙ c.if-not-follows.false)) ∙ one.2 (posts c.args.room ∷ stack),
       c.all.invariant.3,
     )
@@ -344,14 +344,14 @@ later-returns-in_err-item t c =
 pub later-returns-in_default-peek : goal.later-returns-in_default-peek
 later-returns-in_default-peek t c = (
   omega (arith, c.all.invariant.0, c.in_ok-item.ensures.0),
-  later_last c.args.room _ _ _ _ _ _ _ c.in_ok-push.ensures.ok c.in_ok-item.ensures.1 c.all.invariant.1,
+  later_last c.args.room _ _ _ _ _ _ _ c.in_ok-add.ensures c.in_ok-item.ensures.1 c.all.invariant.1,
   λ stack. c.all.invariant.2 stack ∙ later_begins c.args.room stack _ (heads_at is_first true _ c.in-Some.first _ c.in-Some.ensures.0 (sym c.starts.ensures ∙ c.if-not-starts.false)) ∙ c.in_ok-item.ensures.2 (after_sum c.args.room ∷ stack) ∙ end_at (after_sum c.args.room) stack _ c.in_default-peek.ensures refl,
 )
 
 pub later-returns-then-not-same : goal.later-returns-then-not-same
 later-returns-then-not-same t c = (
   omega (arith, c.all.invariant.0, c.in_ok-item.ensures.0),
-  later_last c.args.room _ _ _ _ _ _ _ c.in_ok-push.ensures.ok c.in_ok-item.ensures.1 c.all.invariant.1,
+  later_last c.args.room _ _ _ _ _ _ _ c.in_ok-add.ensures c.in_ok-item.ensures.1 c.all.invariant.1,
   λ stack. c.all.invariant.2 stack ∙ later_begins c.args.room stack _ (heads_at is_first true _ c.in-Some.first _ c.in-Some.ensures.0 (sym c.starts.ensures ∙ c.if-not-starts.false)) ∙ c.in_ok-item.ensures.2 (after_sum c.args.room ∷ stack)
       ∙ skip_at (after_sum c.args.room) stack _ c.in-Some-peek.comma _ c.in-Some-peek.ensures.0 (comma_not (a_later c.args.room) c.in-Some-peek.comma.class (sym c.same.ensures ∙ c.if-not-same.true)),
 )
@@ -363,7 +363,7 @@ later-all-smaller t c =
 pub later-all-preserved : goal.later-all-preserved
 later-all-preserved t c = (
   omega (arith, c.all.invariant.0, c.in_ok-item.ensures.0),
-  later_more c.args.room _ _ _ _ c.in-Some-peek.comma _ _ _ _ c.in_ok-push.ensures.ok c.in_ok-item.ensures.1 c.in-Some-peek.ensures.0 (same_is k.Comma c.in-Some-peek.comma.class (sym c.same.ensures ∙ c.if-not-same.false)) c.all.invariant.1,
+  later_more c.args.room _ _ _ _ c.in-Some-peek.comma _ _ _ _ c.in_ok-add.ensures c.in_ok-item.ensures.1 c.in-Some-peek.ensures.0 (same_is k.Comma c.in-Some-peek.comma.class (sym c.same.ensures ∙ c.if-not-same.false)) c.all.invariant.1,
   λ stack. c.all.invariant.2 stack ∙ later_begins c.args.room stack _ (heads_at is_first true _ c.in-Some.first _ c.in-Some.ensures.0 (sym c.starts.ensures ∙ c.if-not-starts.false)) ∙ c.in_ok-item.ensures.2 (after_sum c.args.room ∷ stack)
       ∙ take_at (after_sum c.args.room) stack _ c.in-Some-peek.comma _ (a_later c.args.room ∷ []) c.in-Some-peek.ensures.0 (ap (comma_on (a_later c.args.room)) (sym (same_is k.Comma c.in-Some-peek.comma.class (sym c.same.ensures ∙ c.if-not-same.false)))),
 )
@@ -391,14 +391,14 @@ arguments-returns-in_err-item t c =
 pub arguments-returns-in_default-peek : goal.arguments-returns-in_default-peek
 arguments-returns-in_default-peek t c = (
   omega (arith, c.all.invariant.0, c.in_ok-item.ensures.0),
-  args_last c.args.room _ _ _ _ _ _ c.in_ok-push.ensures.ok c.in_ok-item.ensures.1 c.all.invariant.1,
+  args_last c.args.room _ _ _ _ _ _ c.in_ok-add.ensures c.in_ok-item.ensures.1 c.all.invariant.1,
   λ stack. c.all.invariant.2 stack ∙ args_begins c.args.room stack _ (heads_at is_first true _ c.in-Some.first _ c.in-Some.ensures.0 (sym c.starts.ensures ∙ c.if-not-starts.false)) ∙ c.in_ok-item.ensures.2 (after_arg c.args.room ∷ stack) ∙ end_at (after_arg c.args.room) stack _ c.in_default-peek.ensures refl,
 )
 
 pub arguments-returns-then-not-same : goal.arguments-returns-then-not-same
 arguments-returns-then-not-same t c = (
   omega (arith, c.all.invariant.0, c.in_ok-item.ensures.0),
-  args_last c.args.room _ _ _ _ _ _ c.in_ok-push.ensures.ok c.in_ok-item.ensures.1 c.all.invariant.1,
+  args_last c.args.room _ _ _ _ _ _ c.in_ok-add.ensures c.in_ok-item.ensures.1 c.all.invariant.1,
   λ stack. c.all.invariant.2 stack ∙ args_begins c.args.room stack _ (heads_at is_first true _ c.in-Some.first _ c.in-Some.ensures.0 (sym c.starts.ensures ∙ c.if-not-starts.false)) ∙ c.in_ok-item.ensures.2 (after_arg c.args.room ∷ stack)
       ∙ skip_at (after_arg c.args.room) stack _ c.in-Some-peek.comma _ c.in-Some-peek.ensures.0 (comma_not (args c.args.room) c.in-Some-peek.comma.class (sym c.same.ensures ∙ c.if-not-same.true)),
 )
@@ -410,7 +410,7 @@ arguments-all-smaller t c =
 pub arguments-all-preserved : goal.arguments-all-preserved
 arguments-all-preserved t c = (
   omega (arith, c.all.invariant.0, c.in_ok-item.ensures.0),
-  args_more c.args.room _ _ _ _ c.in-Some-peek.comma _ _ _ c.in_ok-push.ensures.ok c.in_ok-item.ensures.1 c.in-Some-peek.ensures.0 (same_is k.Comma c.in-Some-peek.comma.class (sym c.same.ensures ∙ c.if-not-same.false)) c.all.invariant.1,
+  args_more c.args.room _ _ _ _ c.in-Some-peek.comma _ _ _ c.in_ok-add.ensures c.in_ok-item.ensures.1 c.in-Some-peek.ensures.0 (same_is k.Comma c.in-Some-peek.comma.class (sym c.same.ensures ∙ c.if-not-same.false)) c.all.invariant.1,
   λ stack. c.all.invariant.2 stack ∙ args_begins c.args.room stack _ (heads_at is_first true _ c.in-Some.first _ c.in-Some.ensures.0 (sym c.starts.ensures ∙ c.if-not-starts.false)) ∙ c.in_ok-item.ensures.2 (after_arg c.args.room ∷ stack)
       ∙ take_at (after_arg c.args.room) stack _ c.in-Some-peek.comma _ (args c.args.room ∷ []) c.in-Some-peek.ensures.0 (ap (comma_on (args c.args.room)) (sym (same_is k.Comma c.in-Some-peek.comma.class (sym c.same.ensures ∙ c.if-not-same.false)))),
 )
@@ -531,7 +531,7 @@ postfix-all-smaller t c = omega (arith, c.in-Some.ensures.1, c.in_ok-one.ensures
 pub atom-returns-in-Text : goal.atom-returns-in-Text
 atom-returns-in-Text t c = (
   omega arith,
-  subst (λ ts. Atom c.args.room ts (s.Text c.in-Some.first.tok) (drop (c.args.at + 1) c.args.tokens.now)) (sym c.in-Some.ensures.0) (a_text c.in-Text.is),
+  subst (λ ts. Atom c.args.room ts (s.Text c.in-Some.first.span) (drop (c.args.at + 1) c.args.tokens.now)) (sym c.in-Some.ensures.0) (a_text c.in-Text.is),
   λ stack. take_at (an_atom c.args.room) stack _ c.in-Some.first _ [] c.in-Some.ensures.0 (ap (λ j. part_on (an_atom c.args.room) j) c.in-Text.is),
 )
 

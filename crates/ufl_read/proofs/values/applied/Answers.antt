@@ -1,4 +1,4 @@
-use Rattle.std.proofs.Common.{◌≡◌, [], ap, ◌∙◌}
+use Rattle.std.proofs.Common.{ap, ◌∙◌}
 use Rattle.ufl_syntax.specs.declared.tree.Syn.TheVariants as s
 use Rattle.ufl_syntax.proofs.Chains.{chain_goes_on, chain_begins}
 use Rattle.ufl_read.proofs.values.applied.Goals as goal

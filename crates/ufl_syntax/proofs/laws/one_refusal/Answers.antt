@@ -1,6 +1,5 @@
-use Rattle.std.proofs.Common.{inl, inr}
 use Rattle.ufl_syntax.proofs.Only.{not_both}
-use Rattle.ufl_syntax.proofs.Whole.{one_of_three, never_begins, file_begins, whole_only, one_stop}
+use Rattle.ufl_syntax.proofs.Whole.{one_of_three, never_begins, whole_only, one_stop}
 use Rattle.ufl_syntax.proofs.laws.one_refusal.Goals as goal
 
 pub returns : goal.returns

@@ -1,8 +1,0 @@
-use Rattle.std.proofs.Common.{◌≡◌, drop}
-use Rattle.spaces.specs.Reading.{spaces_in}
-use Rattle.ufl_expr.specs.Elements.{same_spaces}
-use Rattle.ufl_expr.proofs.elements.+same.Given as goal
-
-abbrev pub invariant-same_elements-loop-tree : goal.invariant-same_elements-loop-tree
-invariant-same_elements-loop-tree l =
-    same_spaces (spaces_in l.trees) (spaces_in l.others) ≡ same_spaces (spaces_in (drop l.tree-index l.trees)) (spaces_in l.left)
