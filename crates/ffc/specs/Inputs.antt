@@ -9,7 +9,7 @@ use Rattle.mesh_in.specs.MeshText.{meaning}
 use Rattle.mesh_in.specs.declared.refusal.MeshRefusal.{MeshRefusal}
 use Rattle.ffc.specs.FormFile.{IsForm, IsNoForm, IsOff}
 use Rattle.mesh_in.specs.HeaderLine.{IsWrongCell}
-use Rattle.ffc.specs.declared.inputs.TheConstants.{FORM_LIMIT}
+use Rattle.slices.specs.declared.form_toks.TheConstants.{FORM_LIMIT}
 use Rattle.answers.specs.declared.outcome.FormKind.{FormKind}
 use Rattle.answers.specs.declared.outcome.FormRefusal.{FormRefusal}
 use Rattle.answers.specs.declared.outcome.FormKind.TheVariants as form
@@ -39,12 +39,9 @@ LoadCause l file name o = (o ≡ Memory) ⊎ ((o ≡ ReadFault file) × Rises l.
 
 -- ---- the form: file 1
 
-abbrev pub form_limit : ℕ
-form_limit = FORM_LIMIT
-
 -- a form that can be compiled, with this factor, in a file that isn't too long
 pub record IsFormFile (text : List ℕ) (c : Fraction) : Type 0 where
-  pub short : length text ≤ form_limit
+  pub short : length text ≤ FORM_LIMIT
   pub states : IsForm text c
 
 -- the file with this name is such a form, with this factor and no other
@@ -53,8 +50,8 @@ HasForm content name c = (text : List ℕ) × IsText content name text × IsForm
 
 -- when a form is refused: it is too long, or else no form that can be compiled, and this line isn't as it is required
 abbrev pub FormRefuses : FormKind → ℕ → List ℕ → Type 0
-FormRefuses form.TooLong line text = (form_limit < length text) × (line ≡ 0)
-FormRefuses form.NotYet line text = (length text ≤ form_limit) × IsNoForm text × IsOff line text
+FormRefuses form.TooLong line text = (FORM_LIMIT < length text) × (line ≡ 0)
+FormRefuses form.NotYet line text = (length text ≤ FORM_LIMIT) × IsNoForm text × IsOff line text
 
 -- why there is no form: its file was not loaded, or is refused
 abbrev pub FormCause : Loads → List ℕ → Outcome → Type 0

@@ -14,7 +14,7 @@ mod rows;
 mod words;
 
 pub use mesh::{CellView, Mesh};
-pub use read::{LIMIT, read_mesh, read_mesh_of};
+pub use read::{MESH_LIMIT, read_mesh, read_mesh_of};
 pub use refusal::{MeshKind, MeshRefusal};
 
 #[cfg(test)]

@@ -24,7 +24,7 @@ use spaces::Cell;
 use std::alloc::Global;
 
 /// How many bytes the text of a mesh may have.
-pub const LIMIT: u32 = 67_108_864;
+pub const MESH_LIMIT: u32 = 67_108_864;
 
 /// The most vertices, and the most cells.
 const MOST: u32 = 1_000_000;
@@ -98,7 +98,7 @@ fn read(alloc: Global, text: &[u8]) -> Result<(Mesh, u32), MeshRefusal>
     ensures line { IfOk result (λ r. r.1 ≡ header_line text.now) }
     ensures err { IfErr result (λ e. Fails e (meaning text.now)) }
 {
-    if text.len() > LIMIT as usize {
+    if text.len() > MESH_LIMIT as usize {
         return Err(MeshRefusal {
             kind: MeshKind::TooLong,
             line: 0,
