@@ -1,6 +1,7 @@
 #!/bin/sh
 # Times the reading of form files of 262,144 bytes beside Python's ast.parse of the same texts, and prints microseconds
-# and their ratio: below 1 the reader is faster. Run it at the top of the repository: sh bench/read.sh
+# and their ratio: below 1 the reader is faster. Run it at the top of the repository: sh bench/read.sh [RUNS]
+# Before each run it prints the load of the machine; above the number of its processors times say little.
 # It works on a copy, since a program that only prints times is no part of the gate.
 set -e
 copy=$(mktemp -d)
@@ -94,6 +95,10 @@ EOR
 cd crates/read_race
 python3 ../../race.py texts
 rt run > run.log 2>&1 || { cat run.log; exit 1; }
-grep '^refused' run.log || true
-grep '^race' run.log > rows
-python3 ../../race.py rows rows
+for run in $(seq "${1:-1}"); do
+    echo "run $run, load $(cut -d ' ' -f 1 /proc/loadavg) on $(nproc) processors"
+    out/read_race > run.log
+    grep '^refused' run.log || true
+    grep '^race' run.log > rows
+    python3 ../../race.py rows rows
+done

@@ -6,13 +6,17 @@ use Rattle.ratio.specs.declared.reduced.Ratio.{Ratio}
 use Rattle.algebra.specs.Fraction.{Fraction}
 use Rattle.ends.specs.Held.{Held}
 use Rattle.mesh_in.specs.MeshData.{MeshData, fractions}
-use Rattle.form_values.specs.Shares.{Refuses}
+use Rattle.form_values.specs.Mass.{mass_problem}
+use Rattle.form_values.specs.Problem.{row_count}
+use Rattle.form_values.specs.Shares.{Refuses, IsIntervalMesh}
+use Rattle.form_values.proofs.IntervalMeshes.{mesh_of_values}
+use Rattle.form_values.proofs.MassCase.{mass_rows}
 use Rattle.assembly.specs.Sums.{Entry}
 use Rattle.assembly.specs.declared.refusal.RunRefusal.{RunRefusal}
 use Rattle.assembly.specs.Rows.{row_of}
 use Rattle.ffc.specs.Inputs.{Loads, HasForm, HasMesh}
-use Rattle.ffc.specs.Assemble.{row_count, AssembleCause}
-use Rattle.ffc.specs.Answer.{HasCause}
+use Rattle.ffc.specs.Assemble.{AssembleCause, IsMatrixText, values_text}
+use Rattle.ffc.specs.Answer.{AnswersWords, HasCause}
 use Rattle.answers.specs.Outcome.{run_outcome}
 use Rattle.ffc.specs.Words.{assemble_words}
 use Rattle.answers.specs.MatrixText.{matrix_text}
@@ -46,9 +50,17 @@ assembled l form mesh o h = record {
 
 -- ---- the text
 
-pub answer_text : (start done name : List ℕ) (rows count : ℕ) (pushed entries : List Entry) → done ≡ start ++ matrix_text name rows rows pushed → start ≡ [] → rows ≡ count → pushed ≡ entries → done ≡ matrix_text name count count entries
-answer_text start done name rows count pushed entries e f g h = e ∙ rw (f, g, h) refl
+pub answered : (content : Option (List Held)) (form mesh text : List ℕ) → IsMatrixText content form mesh text → AnswersWords content (assemble_words form mesh) text
+answered content form mesh text h = record {
+  compile = λ f e. absurd (two_words (codes "assemble") form (codes "a") mesh (codes "-") (codes "compile") f e);
+  assemble = λ f m e.
+      let same = same_names (codes "assemble") form (codes "a") mesh (codes "-") f m e in
+      subst (λ (x : List ℕ). IsMatrixText content x m text) same.0 (subst (λ (x : List ℕ). IsMatrixText content form x text) same.1 h);
+}
 
--- the rows of a mesh in the values of its coordinates
-pub rows_are : (m : MeshData Ratio) (n : ℕ) → n ≡ row_of m.cells (length m.points) → n ≡ row_count (fractions m)
-rows_are m n e = e ∙ ap (row_of m.cells) (sym (length-map m.points (map fraction_of)))
+pub answer_text : (c : Ratio) (m : MeshData Ratio) (start done : List ℕ) (rows : ℕ) (pushed entries : List Entry) → done ≡ start ++ matrix_text (codes "a") rows rows pushed → start ≡ []
+    → rows ≡ row_of m.cells (length m.points) → IsIntervalMesh m → pushed ≡ entries → done ≡ values_text (mass_problem c (fractions m)) entries
+answer_text c m start done rows pushed entries e f g is h =
+    let count : rows ≡ row_count (mass_problem c (fractions m)) (mass_problem c (fractions m)).test =
+    g ∙ ap (row_of m.cells) (sym (length-map m.points (map fraction_of))) ∙ sym (mass_rows c (fractions m) is.0 (mesh_of_values m is.1)) in
+    e ∙ rw (f, count, h) refl

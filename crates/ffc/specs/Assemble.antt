@@ -1,27 +1,32 @@
 -- The matrix of the form on the mesh, and why there is none
-use Rattle.std.specs.Prelude.{◌≡◌, ◌⊎◌, ℕ, List, Option, length, codes}
+use Rattle.std.specs.Prelude.{◌≡◌, ◌⊎◌, ℕ, List, Option, codes}
 use Rattle.algebra.specs.Fraction.{Fraction}
 use Rattle.ends.specs.Held.{Held}
+use Rattle.ratio.specs.Value.{fraction_of}
+use Rattle.ratio.specs.declared.reduced.Ratio.{Ratio}
 use Rattle.mesh_in.specs.MeshData.{MeshData}
 use Rattle.assembly.specs.Sums.{Entry}
-use Rattle.assembly.specs.Rows.{row_of}
 use Rattle.assembly.specs.declared.refusal.RunRefusal.{RunRefusal}
-use Rattle.form_values.specs.FormValues.{AreTriples}
+use Rattle.form_values.specs.FormValue.{AreTriples}
+use Rattle.form_values.specs.Mass.{mass_problem}
+use Rattle.form_values.specs.Problem.{Problem, row_count}
 use Rattle.form_values.specs.Shares.{HasMatrix, Refuses}
 use Rattle.ffc.specs.Inputs.{Loads, HasForm, FormCause, HasMesh, MeshCause}
 use Rattle.answers.specs.Outcome.{run_outcome}
 use Rattle.answers.specs.MatrixText.{matrix_text}
 use Rattle.answers.specs.declared.outcome.Outcome.{Outcome}
 
--- how many rows there are: the vertices that occur in some cell
-abbrev pub row_count : MeshData Fraction → ℕ
-row_count m = row_of m.cells (length m.points)
+-- with as many rows and columns as the arguments have
+abbrev pub values_text : Problem → List Entry → List ℕ
+values_text p entries = matrix_text (codes "a") (row_count p p.test) (row_count p p.trial) entries
 
--- the text of the matrix: the form and the mesh are accepted, all cells have their shares, no sum passes, and these are the values that are not 0
+-- the text of the matrix: the form and the mesh are accepted, all cells have their shares, no sum passes, and these are the values of
+-- the form that are not 0
 abbrev pub IsMatrixText : Option (List Held) → List ℕ → List ℕ → List ℕ → Type 0
 IsMatrixText content form mesh text =
-    (c : Fraction) × (m : MeshData Fraction) × (entries : List Entry) × HasForm content form c × HasMesh content mesh m × HasMatrix m c × AreTriples m c entries
-    × (text ≡ matrix_text (codes "a") (row_count m) (row_count m) entries)
+    (c : Ratio) × (m : MeshData Fraction) × (entries : List Entry) × HasForm content form (fraction_of c)
+    × HasMesh content mesh m × HasMatrix m (fraction_of c) × AreTriples (mass_problem c m) entries
+    × (text ≡ values_text (mass_problem c m) entries)
 
 -- why the form has no matrix on the mesh: the first cell without shares, or else the first entry whose sum passes
 abbrev pub RunCause : Fraction → MeshData Fraction → Outcome → Type 0

@@ -3,13 +3,13 @@ use Rattle.std.specs.Prelude.{◌≡◌, ◌⊎◌, ◌<◌, ◌≤◌, ℕ, Lis
 use Rattle.algebra.specs.Fraction.{Fraction}
 use Rattle.ends.specs.Count.{Rises}
 use Rattle.ends.specs.Held.{Held, bytes_of}
+use Rattle.slices.specs.declared.form_toks.TheConstants.{FORM_LIMIT}
 use Rattle.spaces.specs.declared.cell.Cell.TheVariants.{Interval}
 use Rattle.mesh_in.specs.MeshData.{MeshData}
 use Rattle.mesh_in.specs.MeshText.{meaning}
 use Rattle.mesh_in.specs.declared.refusal.MeshRefusal.{MeshRefusal}
 use Rattle.ffc.specs.FormFile.{IsForm, IsNoForm, IsOff}
 use Rattle.mesh_in.specs.HeaderLine.{IsWrongCell}
-use Rattle.slices.specs.declared.form_toks.TheConstants.{FORM_LIMIT}
 use Rattle.answers.specs.declared.outcome.FormKind.{FormKind}
 use Rattle.answers.specs.declared.outcome.FormRefusal.{FormRefusal}
 use Rattle.answers.specs.declared.outcome.FormKind.TheVariants as form

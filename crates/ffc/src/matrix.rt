@@ -4,7 +4,8 @@ ghost use Rattle.ratio.specs.Value.{fraction_of};
 ghost use Rattle.kernel.specs.MassShare.{IsSmallFactor};
 ghost use Rattle.mesh_in.specs.MeshData.{fractions};
 ghost use Rattle.assembly.specs.Kept.{seen};
-ghost use Rattle.form_values.specs.FormValues.{AreTriples};
+ghost use Rattle.form_values.specs.FormValue.{AreTriples};
+ghost use Rattle.form_values.specs.Mass.{mass_problem};
 ghost use Rattle.form_values.specs.Shares.{HasMatrix, Refuses, IsIntervalMesh};
 ghost use Rattle.c_text.specs.Lawful.{MeetsRules};
 ghost use Rattle.ffc.specs.Unit.{IsMassUnit};
@@ -25,7 +26,7 @@ const FUNCTION_NAME: &[u8] = b"ffc_a";
 pub fn mass_matrix(alloc: Global, c: Ratio, mesh: &Mesh) -> Result<Vec<Triple>, RunRefusal>
     requires factor { IsSmallFactor (fraction_of c) }
     requires mesh { IsIntervalMesh mesh.now }
-    ensures triples { IfOk result (λ ts. AreTriples (fractions mesh.now) (fraction_of c) (map seen ts.items)) }
+    ensures triples { IfOk result (λ ts. AreTriples (mass_problem c (fractions mesh.now)) (map seen ts.items)) }
     ensures whole { OnOk result (HasMatrix (fractions mesh.now) (fraction_of c)) }
     ensures refusal { IfErr result (Refuses (fractions mesh.now) (fraction_of c)) }
 {

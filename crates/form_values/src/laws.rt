@@ -1,30 +1,97 @@
-//! What the runs of a form's kernel on the cells of a mesh have to do with the values of the form. Each law is the contract of a function that
-//! does nothing, for provers to call or cite.
+//! What the shares of cells and the runs of kernels have to do with the values of a form. Each law is the contract of a function
+//! that does nothing, for provers to call or cite.
 
-ghost use Rattle.std.specs.Prelude.{◌≡◌, List};
+ghost use Rattle.std.specs.Prelude.{◌≡◌, ◌≤◌, ◌^◌, ℕ, List, Some, length, slice_get};
 ghost use Rattle.std.specs.List.{AllByRecursion};
 ghost use Rattle.algebra.specs.Fraction.{Fraction};
+ghost use Rattle.algebra.specs.Sums.{total};
+ghost use Rattle.calculus.specs.Polynomial.{nil, derivative};
 ghost use Rattle.ratio.specs.declared.reduced.Ratio.{Ratio};
 ghost use Rattle.c_unit.specs.declared.unit.CFun.{CFun};
-ghost use Rattle.mesh_in.specs.MeshData.{MeshData, fractions};
-ghost use Rattle.assembly.specs.Sums.{Entry, AreSums};
+ghost use Rattle.ratio.specs.Value.{fraction_of};
+ghost use Rattle.spaces.specs.declared.cell.Cell.TheVariants.{Interval};
+ghost use Rattle.spaces.specs.Cell.{dimension};
+ghost use Rattle.mesh_in.specs.MeshData.{MeshData, IsMesh, fractions};
+ghost use Rattle.monos.specs.Layout.{IsLawfulOn, AreRising, value_count};
+ghost use Rattle.dofs.specs.Basis.{CellOf};
+ghost use Rattle.refint.specs.Local.{local};
+ghost use Rattle.ufl_tree.specs.declared.function.Role.{Role};
+ghost use Rattle.ufl_meaning.specs.Density.{density};
+ghost use Rattle.ufl_meaning.specs.Environment.{HasOnlyUsed};
+ghost use Rattle.ufl_meaning.specs.Monomial.{HasNoOffset};
+ghost use Rattle.assembly.specs.Rows.{row_of};
+ghost use Rattle.assembly.specs.Sums.{Entry, AreSums, values_at};
 ghost use Rattle.assembly.specs.Run.{IsGood, run_entries};
 ghost use Rattle.assembly.specs.Run as runs;
 ghost use Rattle.assembly.specs.declared.refusal.RunRefusal.{RunRefusal};
 ghost use Rattle.assembly.specs.declared.refusal.RunRefusal.TheVariants.{Memory};
-ghost use Rattle.form_values.specs.FormValues.{AreTriples};
+ghost use Rattle.form_values.specs.CellLayout.{Occurring, Fits, argument_rows, layout_of, values_on};
+ghost use Rattle.form_values.specs.CellShares.{HaveShares, IsWhole, cell_entries, density_on, tensor_entries};
+ghost use Rattle.form_values.specs.FormValue.{AreTriples, form_value, share_value, start, start_value};
+ghost use Rattle.form_values.specs.HatFunctions.{hat_value};
+ghost use Rattle.form_values.specs.Linear.{IsMultilinear};
+ghost use Rattle.form_values.specs.Mass.{mass_problem, no_others};
+ghost use Rattle.form_values.specs.Problem.{Problem, IsIn, marker_of, row_count};
 ghost use Rattle.form_values.specs.Shares.{HasMatrix, Refuses, IsPlanned, IsIntervalMesh};
 
-/// Where the runs of the form's function go to their ends on all cells and their values can be added up, the sums are the values of the form:
-/// sums over the cells of integrals, in physical coordinates, of the factor times the product of two basis functions. Then no cell is flat, and
-/// neither a cell nor a sum passes.
+/// Whatever makes the local tensors of the cells: where each is its cell's shares, their sums by row and column are the values of the
+/// form, and what a cell adds at a row and a column is its share there. The form is linear in its arguments: that is a premise.
+pub fn triples()
+    ensures sums { (p : Problem) (o : Occurring) → Fits p o → IsMultilinear p o
+        → (tensor : CellOf → List Fraction) → HaveShares p o tensor
+        → (triples : List Entry) → AreSums (tensor_entries p tensor) triples → AreTriples p triples }
+    ensures shares { (p : Problem) (o : Occurring) → Fits p o → IsMultilinear p o
+        → (tensor : CellOf → List Fraction) → HaveShares p o tensor → (k : CellOf) → IsIn k p
+        → (row col : ℕ) → total (values_at (cell_entries p tensor k) row col) ≡ share_value p row col k }
+{}
+
+/// On a cell of the mesh, what a form integrates at two local nodes is what it integrates at their rows.
+pub fn local_nodes()
+    ensures { (p : Problem) (o : Occurring) → Fits p o → IsMultilinear p o → (k : CellOf) → IsIn k p → IsWhole o k
+        → (a b g h : ℕ) → slice_get (argument_rows p p.test k) a ≡ Some g → slice_get (argument_rows p p.trial k) b ≡ Some h
+        → density_on p (marker_of p.mesh k.number) (local (layout_of p o) k.corners (values_on p o.coefficients k) a b)
+        ≡ density p.elements p.form (start p k g h) }
+{}
+
+/// The environment of two rows has no variable at or above the dimension of the mesh, no parameter and no offset.
+pub fn environment()
+    ensures above { (p : Problem) (k : CellOf) → IsMesh p.mesh → IsIn k p → (g h t : ℕ) → dimension p.mesh.kind ≤ t
+        → (r : Role) (i : ℕ) → derivative t (start_value p k g h r i) ≡ nil }
+    ensures parameters { (p : Problem) (k : CellOf) → IsMesh p.mesh → IsIn k p → (g h : ℕ)
+        → HasOnlyUsed (start p k g h) }
+    ensures offsets { (p : Problem) (k : CellOf) (g h : ℕ) → HasNoOffset (start p k g h) }
+{}
+
+/// The layout of a form is lawful where the numbers of its coefficients rise and they have at most 2^24 values on a cell; each cell
+/// has as many values as the layout says.
+pub fn layout()
+    ensures lawful { (p : Problem) (o : Occurring) → Fits p o → AreRising 0 (layout_of p o).coefs
+        → value_count (layout_of p o).coefs ≤ 2 ^ 24 → IsLawfulOn p.mesh.kind (layout_of p o) }
+    ensures values { (p : Problem) (o : Occurring) → Fits p o → (k : CellOf)
+        → length (values_on p o.coefficients k) ≡ value_count (layout_of p o).coefs }
+{}
+
+/// The form `c*u*v*dx` of linear functions on intervals is a case of any form: it has its elements, is linear in both arguments, and
+/// its values are the sums over the cells of the integrals of c times the product of two hat functions, by vertices. Its rows are the
+/// vertices that occur in some cell.
+pub fn mass_case()
+    ensures fits { (c : Ratio) (m : MeshData Fraction) → m.kind ≡ Interval → IsMesh m → Fits (mass_problem c m) no_others }
+    ensures multilinear { (c : Ratio) (m : MeshData Fraction) → IsMultilinear (mass_problem c m) no_others }
+    ensures values { (c : Ratio) (m : MeshData Fraction) → m.kind ≡ Interval → IsMesh m
+        → (row col : ℕ) → hat_value m (fraction_of c) row col ≡ form_value (mass_problem c m) row col }
+    ensures rows { (c : Ratio) (m : MeshData Fraction) → m.kind ≡ Interval → IsMesh m
+        → row_count (mass_problem c m) (mass_problem c m).test ≡ row_of m.cells (length m.points) }
+{}
+
+/// Where the runs of the form's function go to their ends on all cells and their values can be added up, the sums are the values of the
+/// form `c*u*v*dx` of linear functions on intervals. Then no cell is flat, and neither a cell nor a sum passes.
 pub fn matrix()
-    ensures values { (f : CFun) (c : Fraction) → IsPlanned f c → (m : MeshData Ratio) → IsIntervalMesh m →
-        AllByRecursion (IsGood f (fractions m)) m.cells → (triples : List Entry) → AreSums (run_entries f (fractions m)) triples →
-        AreTriples (fractions m) c triples }
-    ensures whole { (f : CFun) (c : Fraction) → IsPlanned f c → (m : MeshData Ratio) → IsIntervalMesh m →
-        AllByRecursion (IsGood f (fractions m)) m.cells → (triples : List Entry) → AreSums (run_entries f (fractions m)) triples →
-        HasMatrix (fractions m) c }
+    ensures values { (f : CFun) (c : Ratio) → IsPlanned f (fraction_of c) → (m : MeshData Ratio) → IsIntervalMesh m
+        → AllByRecursion (IsGood f (fractions m)) m.cells → (triples : List Entry)
+        → AreSums (run_entries f (fractions m)) triples → AreTriples (mass_problem c (fractions m)) triples }
+    ensures whole { (f : CFun) (c : Fraction) → IsPlanned f c → (m : MeshData Ratio) → IsIntervalMesh m
+        → AllByRecursion (IsGood f (fractions m)) m.cells → (triples : List Entry)
+        → AreSums (run_entries f (fractions m)) triples → HasMatrix (fractions m) c }
 {}
 
 /// Where the assembly refuses, there is no matrix of the form, for the same cell or entry; and where there is one, memory alone may be wanting.

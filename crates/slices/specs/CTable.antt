@@ -15,7 +15,8 @@ is_inside_word b = is_letter b || is_digit b
 
 -- { } ( ) [ ] = , ; * & + <
 abbrev pub is_sign : ℕ → Bool
-is_sign b = b == 123 || b == 125 || b == 40 || b == 41 || b == 91 || b == 93 || b == 61 || b == 44 || b == 59 || b == 42 || b == 38 || b == 43 || b == 60
+is_sign b = b == 123 || b == 125 || b == 40 || b == 41 || b == 91 || b == 93 || b == 61 || b == 44
+    || b == 59 || b == 42 || b == 38 || b == 43 || b == 60
 
 -- how many bytes at the front pass the test
 abbrev pub span : (ℕ → Bool) → List ℕ → ℕ

@@ -32,12 +32,14 @@ after_gap blanks quiet (b ∷ bs) at line =
     if b == 92 then after_gap backslash quiet bs at line else
     spot at line
 after_gap comment quiet (b ∷ bs) at line =
-    if b == 10 then (if quiet then after_gap blanks quiet bs (at + 1) (line + 1) else spot at line) else after_gap comment quiet bs (at + 1) line
+    if b == 10 then (if quiet then after_gap blanks quiet bs (at + 1) (line + 1) else spot at line) else
+    after_gap comment quiet bs (at + 1) line
 after_gap backslash quiet (b ∷ bs) at line =
     if b == 10 then after_gap blanks quiet bs (at + 2) (line + 1) else
     if b == 13 then after_gap returned quiet bs at line else
     spot at line
-after_gap returned quiet (b ∷ bs) at line = if b == 10 then after_gap blanks quiet bs (at + 3) (line + 1) else spot at line
+after_gap returned quiet (b ∷ bs) at line =
+    if b == 10 then after_gap blanks quiet bs (at + 3) (line + 1) else spot at line
 
 -- how many bytes of a joined line a backslash begins, with it, or 0; these are the bytes behind it
 abbrev pub returned_length : List ℕ → ℕ

@@ -44,11 +44,14 @@ line_end r p n bytes q = token (token_at bytes p n End) (record r { at = q.at; l
 
 abbrev pub next_by : FormReader → Spot → ℕ → List ℕ → Option (ℕ × TokKind) → FormNext
 next_by r p b bytes None = no_token p.at p.line
-next_by r p b bytes (Some t) = token (token_at bytes p t.0 t.1) (record r { at = p.at + t.0; line = p.line; depth = depth_after b r.depth; begun = true })
+next_by r p b bytes (Some t) =
+    token (token_at bytes p t.0 t.1) (record r { at = p.at + t.0; line = p.line; depth = depth_after b r.depth; begun = true })
 
 abbrev pub next_at : FormReader → Spot → List ℕ → FormNext
 next_at r p [] = if r.begun then line_end r p 0 [] p else finished
-next_at r p (b ∷ bs) = if b == 10 then line_end r p 1 (b ∷ bs) (spot (p.at + 1) (p.line + 1)) else next_by r p b (b ∷ bs) (form_token (b ∷ bs))
+next_at r p (b ∷ bs) =
+    if b == 10 then line_end r p 1 (b ∷ bs) (spot (p.at + 1) (p.line + 1)) else
+    next_by r p b (b ∷ bs) (form_token (b ∷ bs))
 
 unfoldable pub gap_end : FormReader → Spot
 gap_end r = after_gap blanks (quiet_at r.begun r.depth) (drop r.at r.source) r.at r.line

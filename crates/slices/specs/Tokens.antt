@@ -37,7 +37,9 @@ pub data Next : Type 0 where
 
 abbrev pub next_by : Option (ℕ × TokKind) → Rest → Next
 next_by None r = no_token r.from r.line
-next_by (Some t) r = token (record { text = take t.0 r.bytes; from = r.from; line = r.line; kind = t.1 }) (record { bytes = drop t.0 r.bytes; from = r.from + t.0; line = r.line })
+next_by (Some t) r =
+    token (record { text = take t.0 r.bytes; from = r.from; line = r.line; kind = t.1 })
+    (record { bytes = drop t.0 r.bytes; from = r.from + t.0; line = r.line })
 
 abbrev pub next_at : Rest → List ℕ → Next
 next_at r [] = finished
@@ -53,7 +55,8 @@ token_of t = record { text = t.text.now; from = t.from; line = t.line; kind = t.
 abbrev pub IsStep : Reader → Option (Result Tok LexAt) → Reader → Type 0
 IsStep old None new = (next_of (rest_of old) ≡ finished) × (next_of (rest_of new) ≡ finished)
 IsStep old (Some (Ok t)) new = next_of (rest_of old) ≡ token (token_of t) (rest_of new)
-IsStep old (Some (Err e)) new = (next_of (rest_of old) ≡ no_token e.from e.line) × (next_of (rest_of new) ≡ no_token e.from e.line)
+IsStep old (Some (Err e)) new =
+    (next_of (rest_of old) ≡ no_token e.from e.line) × (next_of (rest_of new) ≡ no_token e.from e.line)
 
 -- ---- all tokens
 

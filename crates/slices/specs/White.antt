@@ -14,4 +14,6 @@ pub record Rest : Type 0 where
 -- without the white space at the front
 abbrev pub after_white : List ℕ → ℕ → ℕ → Rest
 after_white [] from line = record { bytes = []; from = from; line = line }
-after_white (b ∷ bs) from line = if is_white b then after_white bs (from + 1) (if b == 10 then line + 1 else line) else record { bytes = b ∷ bs; from = from; line = line }
+after_white (b ∷ bs) from line =
+    if is_white b then after_white bs (from + 1) (if b == 10 then line + 1 else line) else
+    record { bytes = b ∷ bs; from = from; line = line }

@@ -1,6 +1,6 @@
 // The tokens of kernels in C: names and keywords, numbers, `"fr.h"`, `#include` and signs.
 
-ghost use Rattle.std.specs.Prelude.{◌≡◌, ◌<◌, ◌≤◌, length, IfSome};
+ghost use Rattle.std.specs.Prelude.{◌≡◌, ◌+◌, ◌<◌, ◌≤◌, length, drop, IfSome};
 ghost use Rattle.slices.specs.CTable.{is_letter as letter, is_digit as digit, is_inside_word as inside_word, is_sign as sign, word_length as length_of_word, digits_length as length_of_digits, number_length as length_of_number, sign_length as length_of_sign, c_token as token_at};
 
 use crate::toks::TokKind;
@@ -53,20 +53,21 @@ pub fn word_length(text: &[u8]) -> usize
     at
 }
 
-// How many bytes at the front are digits.
+// How many bytes from a place on are digits.
 #[tactic(auto, unfolding(crate::specs::CTable::digits_length))]
-fn digits_length(text: &[u8]) -> usize
-    ensures value { result ≡ length_of_digits text.now }
-    ensures within { result ≤ length text.now }
+pub fn digits_length(text: &[u8], from: usize) -> usize
+    requires { from ≤ length text.now }
+    ensures value { result ≡ length_of_digits (drop from text.now) }
+    ensures within { from + result ≤ length text.now }
 {
-    let mut at = 0;
+    let mut at = from;
     while at < text.len() {
         if !is_digit(text[at]) {
-            return at;
+            return at - from;
         }
         at += 1;
     }
-    at
+    at - from
 }
 
 // The digits at the front, with the `u` where one follows.
@@ -75,7 +76,7 @@ fn number_length(text: &[u8]) -> usize
     ensures value { result ≡ length_of_number text.now }
     ensures within { result ≤ length text.now }
 {
-    let digits = digits_length(text);
+    let digits = digits_length(text, 0);
     if digits < text.len() && text[digits] == b'u' {
         digits + 1
     } else {

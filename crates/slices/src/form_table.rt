@@ -1,10 +1,9 @@
 // The tokens of form files: names and keywords, numbers, strings and signs.
 
 ghost use Rattle.std.specs.Prelude.{◌≡◌, ◌+◌, ◌<◌, ◌≤◌, true, length, drop, IfSome};
-ghost use Rattle.slices.specs.CTable.{digits_length as length_of_digits};
 ghost use Rattle.slices.specs.FormTable.{is_form_sign as form_sign, form_sign_length, fraction_length as length_of_fraction, power_length as length_of_power, exponent_length as length_of_exponent, mantissa_length as length_of_mantissa, form_number_length, with_digits as bytes_with_digits, string_length as length_of_string, begins_number as number_begins, form_token as token_at};
 
-use crate::c_table::{is_digit, is_letter, word_length};
+use crate::c_table::{digits_length, is_digit, is_letter, word_length};
 use crate::toks::TokKind;
 
 fn is_sign(byte: u8) -> bool
@@ -33,23 +32,6 @@ fn sign_length(text: &[u8]) -> usize
         (byte, _, _) if is_sign(byte) => 1,
         _ => 0,
     }
-}
-
-// How many bytes from a place on are digits.
-#[tactic(auto, unfolding(crate::specs::CTable::digits_length))]
-fn digits_length(text: &[u8], from: usize) -> usize
-    requires { from ≤ length text.now }
-    ensures value { result ≡ length_of_digits (drop from text.now) }
-    ensures within { from + result ≤ length text.now }
-{
-    let mut at = from;
-    while at < text.len() {
-        if !is_digit(text[at]) {
-            return at - from;
-        }
-        at += 1;
-    }
-    at - from
 }
 
 // A point, and the digits behind it.

@@ -12,8 +12,7 @@ use std::marker::Model;
 pub const FORM_LIMIT: u32 = 262_144;
 
 /// The tokens of a form file that are still to come. Contracts see it as the file, how far it is read, how many
-/// brackets are open, and
-/// whether the statement has a token.
+/// brackets are open, and whether the statement has a token.
 ///
 /// A line feed ends a statement that has a token, unless a bracket is open or a backslash stands directly before it.
 #[derive(Drop)]
@@ -162,8 +161,7 @@ impl<'a> FormToks<'a> {
     }
 
     /// The next token, the longest at its place, or the end of a logical line; None exactly at the end. Where no
-    /// token starts, the answer
-    /// is that place, now and at every further call.
+    /// token starts, the answer is that place, now and at every further call.
     pub fn next(&mut self) -> Option<Result<Tok<'a>, LexAt>>
         ensures step { IsFormStep self.old result self.new }
         ensures source { self.new.source ≡ self.old.source }

@@ -20,7 +20,8 @@ pub enum TokKind {
 /// Which tokens there are.
 #[derive(Clone, Copy, Debug)]
 pub enum Table {
-    /// Those of kernels in C: names and keywords, numbers with the `u` where one follows, `"fr.h"`, `#include` and signs.
+    /// Those of kernels in C: names and keywords, numbers with the `u` where one follows, `"fr.h"`, `#include` and
+    /// signs.
     C,
 }
 
@@ -73,7 +74,8 @@ fn past_white(text: &[u8], from: usize, line: usize) -> (usize, usize)
     requires short { length text.now < 2 ^ 32 }
     requires place { from ≤ length text.now }
     requires lines { line ≤ from + 1 }
-    ensures left { after_white (drop from text.now) from line ≡ record { bytes = drop result.0 text.now; from = result.0; line = result.1 } }
+    ensures left { after_white (drop from text.now) from line
+        ≡ record { bytes = drop result.0 text.now; from = result.0; line = result.1 } }
     ensures within { (from ≤ result.0) × (result.0 ≤ length text.now) × (result.1 ≤ result.0 + 1) }
 {
     let mut at = from;
@@ -107,14 +109,17 @@ impl<'a> Toks<'a> {
         }
     }
 
-    /// The next token, the longest at its place; None exactly at the end. Where no token starts, the answer is that place, now and
-    /// at every further call.
+    /// The next token, the longest at its place; None exactly at the end. Where no token starts, the answer is that
+    /// place, now and at every further call.
     pub fn next(&mut self) -> Option<Result<Tok<'a>, LexAt>>
         ensures step { IsStep self.old result self.new }
         ensures source { self.new.source ≡ self.old.source }
-        ensures slice { IfSome result (λ r. IfOk r (λ t. t.text.now ≡ take (length t.text.now) (drop t.from self.old.source))) }
-        ensures rises { IfSome result (λ r. IfOk r (λ t. (self.old.at ≤ t.from) × (self.new.at ≡ t.from + length t.text.now) × (0 < length t.text.now))) }
-        ensures gap { IfSome result (λ r. IfOk r (λ t. All (λ b. IsTrue (white b)) (take (t.from - self.old.at) (drop self.old.at self.old.source)))) }
+        ensures slice { IfSome result (λ r. IfOk r (λ t. t.text.now
+            ≡ take (length t.text.now) (drop t.from self.old.source))) }
+        ensures rises { IfSome result (λ r. IfOk r (λ t. (self.old.at ≤ t.from)
+            × (self.new.at ≡ t.from + length t.text.now) × (0 < length t.text.now))) }
+        ensures gap { IfSome result (λ r. IfOk r (λ t. All (λ b. IsTrue (white b))
+            (take (t.from - self.old.at) (drop self.old.at self.old.source)))) }
     {
         let (at, line) = past_white(self.text, self.at, self.line);
         self.at = at;

@@ -3,3 +3,4 @@ pub mod Lines
 pub mod Whole
 pub mod Exact
 pub mod Outcome
+pub mod LevelLaws

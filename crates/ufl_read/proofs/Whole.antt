@@ -12,6 +12,7 @@ use Rattle.ufl_syntax.specs.declared.tree.Stmt.{Stmt}
 use Rattle.ufl_syntax.specs.Grammar.{File, no_statement}
 use Rattle.ufl_syntax.specs.Classes.{class_by, lexeme_of, lexemes}
 use Rattle.ufl_syntax.proofs.Refusal.{closed_begins}
+use Rattle.ufl_read.specs.declared.statements.TheConstants.{DEPTH_LIMIT}
 use Rattle.ufl_read.specs.declared.tokens.Fault.{Fault}
 use Rattle.ufl_read.specs.declared.tokens.Fault.TheVariants as f
 use Rattle.ufl_syntax.specs.Refusal.{EndsEarly}
@@ -51,15 +52,15 @@ no_tokens : (n : ℕ) → EndsEarly n [] → ⊥
 no_tokens n w = w.1 [] no_statement
 
 -- the tokens of a whole file don't end too early
-never_early : (ts : List Tok) → ((ts ≡ []) × (false ≡ false)) ⊎ EndsALine ts → EndsEarly 64 (lexemes ts) → ⊥
-never_early ts (inl x) w = no_tokens 64 (subst (λ l. EndsEarly 64 (lexemes l)) x.0 w)
+never_early : (ts : List Tok) → ((ts ≡ []) × (false ≡ false)) ⊎ EndsALine ts → EndsEarly DEPTH_LIMIT (lexemes ts) → ⊥
+never_early ts (inl x) w = no_tokens DEPTH_LIMIT (subst (λ l. EndsEarly DEPTH_LIMIT (lexemes l)) x.0 w)
 never_early ts (inr (front, end, x, i)) w =
     let e : lexemes ts ≡ lexemes front ++ lexeme_of end ∷ [] = ap lexemes x ∙ lexemes_append front (end ∷ []) in
-    let v = subst (λ l. EndsEarly 64 l) e w in
-    let d = closed_begins 64 (lexemes front) (lexeme_of end) (omega arith) (ap (λ j. class_by j end.text.now) i) v.0 in
+    let v = subst (λ l. EndsEarly DEPTH_LIMIT l) e w in
+    let d = closed_begins DEPTH_LIMIT (lexemes front) (lexeme_of end) (omega arith) (ap (λ j. class_by j end.text.now) i) v.0 in
     v.1 d.0 d.1
 
-unread : (text : List ℕ) (ts : List Tok) (fault : Fault) (e : Option LexAt) → length text ≤ FORM_LIMIT → Scan (form_begins text) ts e → IsRefusal 64 (lexemes ts) fault → IsFormRefusal text (refusal_for (lexemes ts) fault e)
+unread : (text : List ℕ) (ts : List Tok) (fault : Fault) (e : Option LexAt) → length text ≤ FORM_LIMIT → Scan (form_begins text) ts e → IsRefusal DEPTH_LIMIT (lexemes ts) fault → IsFormRefusal text (refusal_for (lexemes ts) fault e)
 unread text ts f.Memory e h s w = inl refl
 unread text ts f.Short None h s w = absurd (never_early ts (ends_a_line (form_begins text) ts None refl s) w)
 unread text ts f.Short (Some e) h s w = inr (inr (h, r.no_token ts e s w.0))
@@ -68,13 +69,13 @@ unread text ts (f.Wrong at) e h s w =
 unread text ts (f.Deep at) e h s w =
     inr (inr (h, subst (λ l. IsUnread text (deep_by (take at (lexemes ts)) l)) (sym w.2) (r.too_deep (take at (lexemes ts)) w.0 w.1 s (split_at (lexemes ts) at w.0 w.1 w.2) w.3.0 w.3.1)))
 
-pub refused : (text : List ℕ) (ts : List Tok) (fault : Fault) (e : Option LexAt) (all : List Lexeme) → length text ≤ FORM_LIMIT → Scan (form_begins text) ts e → all ≡ lexemes ts → IsRefusal 64 all fault
+pub refused : (text : List ℕ) (ts : List Tok) (fault : Fault) (e : Option LexAt) (all : List Lexeme) → length text ≤ FORM_LIMIT → Scan (form_begins text) ts e → all ≡ lexemes ts → IsRefusal DEPTH_LIMIT all fault
     → IsFormRefusal text (refusal_for all fault e)
-refused text ts fault e all h s i w = subst (λ l. IsFormRefusal text (refusal_for l fault e)) (sym i) (unread text ts fault e h s (subst (λ l. IsRefusal 64 l fault) i w))
+refused text ts fault e all h s i w = subst (λ l. IsFormRefusal text (refusal_for l fault e)) (sym i) (unread text ts fault e h s (subst (λ l. IsRefusal DEPTH_LIMIT l fault) i w))
 
 -- statements, and then a place where no token starts
-pub lost_after : (text : List ℕ) (ts : List Tok) (e : LexAt) (all : List Lexeme) (sts : List Stmt) → length text ≤ FORM_LIMIT → Scan (form_begins text) ts (Some e) → all ≡ lexemes ts → File 64 all sts []
+pub lost_after : (text : List ℕ) (ts : List Tok) (e : LexAt) (all : List Lexeme) (sts : List Stmt) → length text ≤ FORM_LIMIT → Scan (form_begins text) ts (Some e) → all ≡ lexemes ts → File DEPTH_LIMIT all sts []
     → IsFormRefusal text (refusal_for all f.Short (Some e))
 lost_after text ts e all sts h s i d =
     subst (λ l. IsFormRefusal text (refusal_for l f.Short (Some e))) (sym i)
-    (inr (inr (h, r.no_token ts e s ([], sts, subst (λ l. File 64 l sts []) (i ∙ sym (append-nil (lexemes ts))) d))))
+    (inr (inr (h, r.no_token ts e s ([], sts, subst (λ l. File DEPTH_LIMIT l sts []) (i ∙ sym (append-nil (lexemes ts))) d))))

@@ -36,8 +36,7 @@ fn read_tokens(alloc: Global, text: &[u8]) -> Result<(Items<Lexeme>, Option<LexA
 /// The statements of a form file.
 ///
 /// The refusal is `TooLong`, or that of the first token with which no list of statements begins; `Lex` where no token
-/// starts behind
-/// tokens that can be gone on with.
+/// starts behind tokens that can be gone on with.
 pub fn read_file(alloc: Global, text: &[u8]) -> Result<Items<Stmt>, FormRefusal>
     ensures found { IfOk result (λ sts. IsFile text.now sts) }
     ensures refused { IfErr result (λ e. IsFormRefusal text.now e) }

@@ -1,8 +1,7 @@
 //! Reads UFL form files: texts of a small part of Python, as statements whose tokens are slices of the text.
 //!
 //! The grammar and its laws are those of `ufl_syntax`. The descent goes no deeper than brackets, signs and `**` may
-//! nest;
-//! all else is read in loops.
+//! nest; all else is read in loops.
 #![tactic(auto)]
 
 mod file;

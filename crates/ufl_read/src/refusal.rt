@@ -62,8 +62,7 @@ impl FormKind {
 }
 
 /// Why a form file is refused: the line on which the statement begins, counted from 1, or 0 where no statement is
-/// refused; and the
-/// refused word, by its place in the file and its length in bytes, both 0 where there is none.
+/// refused; and the refused word, by its place in the file and its length in bytes, both 0 where there is none.
 #[derive(Clone, Copy, Debug, PartialEq, Eq)]
 pub struct FormRefusal {
     pub kind: FormKind,

@@ -28,7 +28,8 @@ fn ended(alloc: Global, tokens: &[Lexeme], at: usize, room: u32) -> Result<(Syn,
 
 // A `=`, a value and the end of its line.
 fn assigned(alloc: Global, tokens: &[Lexeme], at: usize, room: u32) -> Result<(Syn, usize), Fault>
-    ensures { ReadsAll (λ r ts rest. IsAssigned room ts r.0 rest) (λ r. r.1) (assigned_parts room) tokens.now at result }
+    ensures { ReadsAll (λ r ts rest. IsAssigned room ts r.0 rest) (λ r. r.1) (assigned_parts room)
+        tokens.now at result }
 {
     let (_sign, past) = expect(tokens, at, Class::Assign)?;
     ended(alloc, tokens, past, room)
@@ -93,7 +94,8 @@ fn named(
     room: u32,
 ) -> Result<(Stmt, usize), Fault>
     requires { IsWord first }
-    ensures { Reads (λ r ts rest. Statement room (first ∷ ts) r.0 rest) (λ r. r.1) (after_first room) tokens.now at result }
+    ensures { Reads (λ r ts rest. Statement room (first ∷ ts) r.0 rest) (λ r. r.1) (after_first room)
+        tokens.now at result }
 {
     let Some(sign) = peek(tokens, at) else {
         return Err(Fault::Short);
@@ -173,7 +175,8 @@ fn bracketed(
     room: u32,
 ) -> Result<(Stmt, usize), Fault>
     requires { bracket.class ≡ Class.Open }
-    ensures { ReadsAll (λ r ts rest. Statement room (bracket ∷ ts) r.0 rest) (λ r. r.1) (bracket_parts room) tokens.now at result }
+    ensures { ReadsAll (λ r ts rest. Statement room (bracket ∷ ts) r.0 rest) (λ r. r.1) (bracket_parts room)
+        tokens.now at result }
 {
     let (first, past_first) = expect_name(tokens, at, room)?;
     let (targets, unpack, past_names) = target_list(alloc, tokens, first, past_first)?;

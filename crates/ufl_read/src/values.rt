@@ -6,6 +6,7 @@ ghost use Rattle.ufl_syntax.specs.Grammar.{Value, Later, Sum, Term, Signed, Post
 ghost use Rattle.ufl_syntax.specs.Grammar.{chain as as_chain, applied as as_applied};
 ghost use Rattle.ufl_syntax.specs.Machine.{a_value, a_later, a_sum, a_term, a_signed, a_postfix, an_atom, a_post, args, an_arg};
 ghost use Rattle.ufl_syntax.specs.declared.tree.Syn.{Syn};
+ghost use Rattle.ufl_read.specs.Levels.{IsChain, IsOperand, a_chain, an_operand, is_joining};
 ghost use Rattle.ufl_read.specs.Reads.{Reads, EndsTerm};
 
 use crate::lists::add;
@@ -131,49 +132,74 @@ fn term(alloc: Global, tokens: &[Lexeme], at: usize, room: u32) -> Result<(Syn, 
     if let Some(short) = short_term(tokens, at) {
         return Ok((short, at + 1));
     }
-    long_term(alloc, tokens, at, room)
+    chain(alloc, tokens, at, room, Level::Term)
 }
 
 #[cycle(reader)]
-fn sum(alloc: Global, tokens: &[Lexeme], from: usize, room: u32) -> Result<(Syn, usize), Fault>
-    ensures { Reads (λ r ts rest. Sum room ts r.0 rest) (λ r. r.1) (a_sum room) tokens.now from result }
+#[inline(always)]
+fn sum(alloc: Global, tokens: &[Lexeme], at: usize, room: u32) -> Result<(Syn, usize), Fault>
+    ensures { Reads (λ r ts rest. Sum room ts r.0 rest) (λ r. r.1) (a_sum room) tokens.now at result }
 {
-    let (first, past) = term(alloc, tokens, from, room)?;
-    let mut at = past;
-    let mut chain = Items::new(alloc);
-    'all: loop {
-        let Some(op) = peek(tokens, at) else {
-            return Ok((chained(alloc, first, chain)?, at));
-        };
-        if !signs(op.class) {
-            return Ok((chained(alloc, first, chain)?, at));
-        }
-        let (right, end) = term(alloc, tokens, at + 1, room)?;
-        add(alloc, &mut chain, Next { op: op.span, right })?;
-        at = end;
+    chain(alloc, tokens, at, room, Level::Sum)
+}
+
+// Which operators join values: `+` and `-` join terms to a sum, `*` and `/` join factors to a term.
+#[derive(Clone, Copy)]
+enum Level {
+    Sum,
+    Term,
+}
+
+fn joins(level: Level, class: Class) -> bool
+    ensures { result ≡ is_joining level class }
+{
+    match level {
+        Level::Sum => signs(class),
+        Level::Term => factors(class),
+    }
+}
+
+// What stands between the operators of a level.
+#[cycle(reader)]
+#[inline(always)]
+fn operand(
+    alloc: Global,
+    tokens: &[Lexeme],
+    at: usize,
+    room: u32,
+    level: Level,
+) -> Result<(Syn, usize), Fault>
+    ensures { Reads (λ r ts rest. IsOperand level room ts r.0 rest) (λ r. r.1) (an_operand level room)
+        tokens.now at result }
+{
+    match level {
+        Level::Sum => term(alloc, tokens, at, room),
+        Level::Term => signed(alloc, tokens, at, room),
     }
 }
 
 #[cycle(reader)]
-fn long_term(
+fn chain(
     alloc: Global,
     tokens: &[Lexeme],
     from: usize,
     room: u32,
+    level: Level,
 ) -> Result<(Syn, usize), Fault>
-    ensures { Reads (λ r ts rest. Term room ts r.0 rest) (λ r. r.1) (a_term room) tokens.now from result }
+    ensures { Reads (λ r ts rest. IsChain level room ts r.0 rest) (λ r. r.1) (a_chain level room)
+        tokens.now from result }
 {
-    let (first, past) = signed(alloc, tokens, from, room)?;
+    let (first, past) = operand(alloc, tokens, from, room, level)?;
     let mut at = past;
     let mut chain = Items::new(alloc);
     'all: loop {
         let Some(op) = peek(tokens, at) else {
             return Ok((chained(alloc, first, chain)?, at));
         };
-        if !factors(op.class) {
+        if !joins(level, op.class) {
             return Ok((chained(alloc, first, chain)?, at));
         }
-        let (right, end) = signed(alloc, tokens, at + 1, room)?;
+        let (right, end) = operand(alloc, tokens, at + 1, room, level)?;
         add(alloc, &mut chain, Next { op: op.span, right })?;
         at = end;
     }

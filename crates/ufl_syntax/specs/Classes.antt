@@ -69,7 +69,8 @@ class_by t.Symbol w = sign_class w
 class_by t.End w = k.End
 
 abbrev pub lexeme_of : Tok → Lexeme
-lexeme_of t = record { span = record { from = t.from; len = length t.text.now }; line = t.line; class = class_by t.kind t.text.now }
+lexeme_of t =
+    record { span = record { from = t.from; len = length t.text.now }; line = t.line; class = class_by t.kind t.text.now }
 
 abbrev pub lexemes : List Tok → List Lexeme
 lexemes [] = []

@@ -288,31 +288,11 @@ fn first_other<'a>(alloc: Global, rows: &[(&'a str, &'a str)]) -> Result<Option<
 }
 
 #[test]
-fn reads_statements(rt: HostRuntime) -> Result<(), Fail> {
+fn reads_or_refuses(rt: HostRuntime) -> Result<(), Fail> {
     assert_eq!(rt; first_other(rt.alloc(), &STATEMENTS)?, None);
-    Ok(())
-}
-
-#[test]
-fn reads_values(rt: HostRuntime) -> Result<(), Fail> {
     assert_eq!(rt; first_other(rt.alloc(), &VALUES)?, None);
-    Ok(())
-}
-
-#[test]
-fn reads_bytes(rt: HostRuntime) -> Result<(), Fail> {
     assert_eq!(rt; first_other(rt.alloc(), &BYTES)?, None);
-    Ok(())
-}
-
-#[test]
-fn refuses_what_is_no_token(rt: HostRuntime) -> Result<(), Fail> {
     assert_eq!(rt; first_other(rt.alloc(), &NO_TOKEN)?, None);
-    Ok(())
-}
-
-#[test]
-fn refuses_tokens(rt: HostRuntime) -> Result<(), Fail> {
     assert_eq!(rt; first_other(rt.alloc(), &REFUSED)?, None);
     Ok(())
 }

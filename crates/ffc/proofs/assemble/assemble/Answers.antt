@@ -1,10 +1,10 @@
-use Rattle.std.proofs.Common.{ap, map, codes}
+use Rattle.std.proofs.Common.{ap, map}
 use Rattle.std.proofs.lemmas.Result.{err_from_is_err_and}
 use Rattle.mesh_in.specs.MeshData.{fractions}
 use Rattle.ratio.specs.Value.{fraction_of}
 use Rattle.assembly.specs.Kept.{seen}
 use Rattle.ffc.specs.Inputs.{loads}
-use Rattle.ffc.proofs.AnswerLaws.{same_mesh, run_cause, answer_text, rows_are}
+use Rattle.ffc.proofs.AnswerLaws.{same_mesh, run_cause, answer_text}
 use Rattle.ffc.proofs.assemble.assemble.Goals as goal
 
 pub returns-in_err-triples-clause-cause : goal.returns-in_err-triples-clause-cause
@@ -18,12 +18,12 @@ returns-in_err-triples-clause-cause g c =
 
 pub returns-clause-ok : goal.returns-clause-ok
 returns-clause-ok g c = (
-  fraction_of c.in_ok-factor.factor,
+  c.in_ok-factor.factor,
   fractions c.in_ok-mesh.mesh,
   map seen c.in_ok-triples.triples.items,
   c.in_ok-factor.ensures.form,
   same_mesh (g.F.Files.content c.args.files.now) _ c.args.mesh.now (fractions c.in_ok-mesh.mesh) c.in_ok-factor.ensures.content c.in_ok-mesh.ensures.mesh,
   c.in_ok-triples.ensures.whole,
   c.in_ok-triples.ensures.triples,
-  answer_text c.new-text.result.items c.push_matrix.new.text.items (codes "a") c.in_ok-rows.field-0.count _ _ _ c.in_ok-push_matrix.ensures c.new-text.ensures.items (rows_are c.in_ok-mesh.mesh c.in_ok-rows.field-0.count c.in_ok-rows.ensures.count) (ap (map seen) c.as_slice.ensures.value),
+  answer_text c.in_ok-factor.factor c.in_ok-mesh.mesh c.new-text.result.items c.push_matrix.new.text.items c.in_ok-rows.field-0.count _ _ c.in_ok-push_matrix.ensures c.new-text.ensures.items c.in_ok-rows.ensures.count c.in_ok-mesh.ensures.intervals (ap (map seen) c.as_slice.ensures.value),
 )

@@ -1,5 +1,6 @@
 use Rattle.mesh_in.specs.MeshData.{fractions}
-use Rattle.form_values.proofs.ShareLaws.{on_line, cells_in, refuses, only_memory}
+use Rattle.form_values.proofs.IntervalMeshes.{on_line, cells_in}
+use Rattle.form_values.proofs.ShareLaws.{refuses, only_memory}
 use Rattle.form_values.proofs.laws.refusals.Goals as goal
 
 pub returns-clause-cause : goal.returns-clause-cause

@@ -2,11 +2,13 @@ use Rattle.std.proofs.Common.{[], ◌∷◌, ◌++◌, ◌≡◌, ◌∙◌, sym
 use Rattle.std.proofs.lemmas.Result.{err_from_is_err_and}
 use Rattle.ufl_syntax.specs.declared.class.Class.TheVariants as k
 use Rattle.ufl_syntax.specs.declared.tree.Syn.TheVariants as s
-use Rattle.ufl_syntax.specs.Grammar.{positional, chain, applied, plain, Posts, Args, single, Adds, Muls, Atom, a_name, a_number, a_text}
-use Rattle.ufl_syntax.specs.Machine.{part_on, comma_on, a_value, a_later, after_sum, adds, a_term, muls, a_signed, a_power, posts, a_post, args, after_arg, an_arg, a_word, is_first, is_post, post_on, an_atom, token}
+use Rattle.ufl_syntax.specs.Grammar.{positional, chain, applied, plain, Posts, Args, single, Atom, a_name, a_number, a_text}
+use Rattle.ufl_syntax.specs.Machine.{part_on, comma_on, a_value, a_later, after_sum, a_signed, a_power, posts, a_post, args, after_arg, an_arg, a_word, is_first, is_post, post_on, an_atom, token}
 use Rattle.ufl_syntax.proofs.Words.{same_is}
-use Rattle.ufl_syntax.proofs.Complete.{value_begins, sum_begins, term_begins, postfix_begins, posts_begins, posts_skip, later_begins, args_begins, add_on, mul_on}
-use Rattle.ufl_read.proofs.Turns.{short_run, short_at, end_at, skip_at, take_at, stop_at, sink_at, sunk, along, comma_not, sign_not, factor_not, atom_deep, atom_open, list_deep, list_open, list_at, atom_wrong, Keyed, NotKeyed, keyed_at, keyed_arg, keyed_run, unkeyed, not_assign_some, not_assign_none, heads_at, signed_deep, signed_open, plain_at, power_not, power_deep, power_open, signed_at, power_at, postfix_at, posted_at, later_not, args_not, later_end, later_last, later_more, args_end, args_last, args_more, tuple_at, post_deep, post_open, index_deep, index_open, post_wrong, call_at, index_at, attr_at, bracketed_at, sum_at, added_at, term_at, multiplied_at}
+use Rattle.ufl_syntax.proofs.Complete.{value_begins, postfix_begins, posts_begins, posts_skip, later_begins, args_begins}
+use Rattle.ufl_read.proofs.Turns.{short_run, short_at, end_at, skip_at, take_at, stop_at, sink_at, sunk, along, comma_not, atom_deep, atom_open, list_deep, list_open, list_at, atom_wrong, Keyed, NotKeyed, keyed_at, keyed_arg, keyed_run, unkeyed, not_assign_some, not_assign_none, heads_at, signed_deep, signed_open, plain_at, power_not, power_deep, power_open, signed_at, power_at, postfix_at, posted_at, later_not, args_not, later_end, later_last, later_more, args_end, args_last, args_more, tuple_at, post_deep, post_open, index_deep, index_open, post_wrong, call_at, index_at, attr_at, bracketed_at}
+use Rattle.ufl_read.specs.Levels.{an_operand}
+use Rattle.ufl_read.proofs.LevelLaws.{Joined, joined, joined_empty, operand_moved, chain_moves, chain_begins, not_joined, joins_on, chain_at, joined_at}
 use Rattle.ufl_read.proofs.values.+reader.Goals as goal
 use Rattle.ufl_read.proofs.values.+reader.Goals.{argument-in-Some-peek, argument-in-None}
 
@@ -68,103 +70,63 @@ pub atom-returns-in_default-class : goal.atom-returns-in_default-class
 atom-returns-in_default-class t c =
     λ stack. stop_at (an_atom c.args.room) stack _ c.in-Some.first _ c.in-Some.ensures.0 (atom_wrong c.args.room c.in-Some.first.class c.in_default-class.not-Name c.in_default-class.not-Number c.in_default-class.not-Text c.in_default-class.not-Open c.in_default-class.not-OpenList)
 
--- sum
+-- chains
 
-pub sum-returns-in_err-first : goal.sum-returns-in_err-first
-sum-returns-in_err-first t c =
+pub chain-returns-in_err-first : goal.chain-returns-in_err-first
+chain-returns-in_err-first t c =
     let p = err_from_is_err_and c.from_residual.result c.from_residual.ensures.1 in
-    rw (p.1, p.2) (λ stack. along c.args.tokens.now _ _ _ (sum_begins c.args.room stack _) (c.in_err-first.ensures (adds c.args.room ∷ stack)))
+    rw (p.1, p.2) (λ stack. along c.args.tokens.now _ _ _ (chain_begins c.args.level c.args.room stack _) (c.in_err-first.ensures (joined c.args.level c.args.room ∷ stack)))
 
-pub long_term-returns-in_err-first : goal.long_term-returns-in_err-first
-long_term-returns-in_err-first t c =
-    let p = err_from_is_err_and c.from_residual.result c.from_residual.ensures.1 in
-    rw (p.1, p.2) (λ stack. along c.args.tokens.now _ _ _ (term_begins c.args.room stack _) (c.in_err-first.ensures (muls c.args.room ∷ stack)))
+pub chain-all-init : goal.chain-all-init
+chain-all-init t c = (
+  omega arith,
+  λ ns rest h. subst (λ l. Joined c.args.level c.args.room (drop c.in_ok-first.past c.args.tokens.now) (l ++ ns) rest) (sym c.new-chain.ensures) h,
+  λ stack. refl,
+  refl,
+)
 
-pub sum-all-init : goal.sum-all-init
-sum-all-init t c = (omega arith, λ ns rest h. subst (λ l. Adds c.args.room (drop c.in_ok-first.past c.args.tokens.now) (l ++ ns) rest) (sym c.new-chain.ensures) h, λ stack. refl, refl)
-
-pub long_term-all-init : goal.long_term-all-init
-long_term-all-init t c = (omega arith, λ ns rest h. subst (λ l. Muls c.args.room (drop c.in_ok-first.past c.args.tokens.now) (l ++ ns) rest) (sym c.new-chain.ensures) h, λ stack. refl, refl)
-
-pub sum-returns-in_default : goal.sum-returns-in_default
-sum-returns-in_default t c =
-    let first = c.in_ok-first.ensures in (
-      omega (arith, first.0, c.all.invariant.0),
-      sum_at c.args.room _ _ _ _ _ _ (c.in_ok-chained.ensures ∙ ap (λ e. chain e c.all.chain) c.all.invariant.3) first.1 c.all.invariant.1,
-      λ stack. sum_begins c.args.room stack _ ∙ first.2 (adds c.args.room ∷ stack) ∙ c.all.invariant.2 stack ∙ end_at (adds c.args.room) stack _ c.in_default.ensures refl,
+pub chain-returns-in_default : goal.chain-returns-in_default
+chain-returns-in_default t c =
+    let first = c.in_ok-first.ensures in
+    let part = joined c.args.level c.args.room in (
+      chain_moves c.args.level c.args.room _ _ (omega (arith, operand_moved c.args.level c.args.room _ _ first.0, c.all.invariant.0)),
+      chain_at c.args.level c.args.room _ _ _ _ _ _ (c.in_ok-chained.ensures ∙ ap (λ e. chain e c.all.chain) c.all.invariant.3) first.1 c.all.invariant.1,
+      λ stack. chain_begins c.args.level c.args.room stack _ ∙ first.2 (part ∷ stack) ∙ c.all.invariant.2 stack ∙ end_at part stack _ c.in_default.ensures (joined_empty c.args.level c.args.room),
     )
 
-pub long_term-returns-in_default : goal.long_term-returns-in_default
-long_term-returns-in_default t c =
-    let first = c.in_ok-first.ensures in (
-      omega (arith, first.0, c.all.invariant.0),
-      term_at c.args.room _ _ _ _ _ _ (c.in_ok-chained.ensures ∙ ap (λ e. chain e c.all.chain) c.all.invariant.3) first.1 c.all.invariant.1,
-      λ stack. term_begins c.args.room stack _ ∙ first.2 (muls c.args.room ∷ stack) ∙ c.all.invariant.2 stack ∙ end_at (muls c.args.room) stack _ c.in_default.ensures refl,
+pub chain-returns-then-not-joins : goal.chain-returns-then-not-joins
+chain-returns-then-not-joins t c =
+    let first = c.in_ok-first.ensures in
+    let part = joined c.args.level c.args.room in (
+      chain_moves c.args.level c.args.room _ _ (omega (arith, operand_moved c.args.level c.args.room _ _ first.0, c.all.invariant.0)),
+      chain_at c.args.level c.args.room _ _ _ _ _ _ (c.in_ok-chained-2.ensures ∙ ap (λ e. chain e c.all.chain) c.all.invariant.3) first.1 c.all.invariant.1,
+      λ stack. chain_begins c.args.level c.args.room stack _ ∙ first.2 (part ∷ stack) ∙ c.all.invariant.2 stack
+          ∙ skip_at part stack _ c.in-Some.op _ c.in-Some.ensures.0 (not_joined c.args.level c.args.room c.in-Some.op.class (sym c.joins.ensures ∙ c.if-not-joins.true)),
     )
 
-pub sum-returns-then-not-signs : goal.sum-returns-then-not-signs
-sum-returns-then-not-signs t c =
-    let first = c.in_ok-first.ensures in (
-      omega (arith, first.0, c.all.invariant.0),
-      sum_at c.args.room _ _ _ _ _ _ (c.in_ok-chained-2.ensures ∙ ap (λ e. chain e c.all.chain) c.all.invariant.3) first.1 c.all.invariant.1,
-      λ stack. sum_begins c.args.room stack _ ∙ first.2 (adds c.args.room ∷ stack) ∙ c.all.invariant.2 stack
-          ∙ skip_at (adds c.args.room) stack _ c.in-Some.op _ c.in-Some.ensures.0 (sign_not c.args.room c.in-Some.op.class (sym c.signs.ensures ∙ c.if-not-signs.true)),
-    )
-
-pub long_term-returns-then-not-factors : goal.long_term-returns-then-not-factors
-long_term-returns-then-not-factors t c =
-    let first = c.in_ok-first.ensures in (
-      omega (arith, first.0, c.all.invariant.0),
-      term_at c.args.room _ _ _ _ _ _ (c.in_ok-chained-2.ensures ∙ ap (λ e. chain e c.all.chain) c.all.invariant.3) first.1 c.all.invariant.1,
-      λ stack. term_begins c.args.room stack _ ∙ first.2 (muls c.args.room ∷ stack) ∙ c.all.invariant.2 stack
-          ∙ skip_at (muls c.args.room) stack _ c.in-Some.op _ c.in-Some.ensures.0 (factor_not c.args.room c.in-Some.op.class (sym c.factors.ensures ∙ c.if-not-factors.true)),
-    )
-
-pub sum-returns-in_err-right : goal.sum-returns-in_err-right
-sum-returns-in_err-right t c =
+pub chain-returns-in_err-right : goal.chain-returns-in_err-right
+chain-returns-in_err-right t c =
     let p = err_from_is_err_and c.from_residual-in_err-right.result c.from_residual-in_err-right.ensures.1 in
     let first = c.in_ok-first.ensures in
+    let part = joined c.args.level c.args.room in
     rw (p.1, p.2) (λ stack. along c.args.tokens.now _ _ _
-    (sum_begins c.args.room stack _ ∙ first.2 (adds c.args.room ∷ stack) ∙ c.all.invariant.2 stack
-    ∙ take_at (adds c.args.room) stack _ c.in-Some.op _ (a_term c.args.room ∷ adds c.args.room ∷ []) c.in-Some.ensures.0 (add_on c.args.room c.in-Some.op.class (sym c.signs.ensures ∙ c.if-not-signs.false)))
-    (c.in_err-right.ensures (adds c.args.room ∷ stack)))
+    (chain_begins c.args.level c.args.room stack _ ∙ first.2 (part ∷ stack) ∙ c.all.invariant.2 stack
+    ∙ take_at part stack _ c.in-Some.op _ (an_operand c.args.level c.args.room ∷ part ∷ []) c.in-Some.ensures.0 (joins_on c.args.level c.args.room c.in-Some.op.class (sym c.joins.ensures ∙ c.if-not-joins.false)))
+    (c.in_err-right.ensures (part ∷ stack)))
 
-pub long_term-returns-in_err-right : goal.long_term-returns-in_err-right
-long_term-returns-in_err-right t c =
-    let p = err_from_is_err_and c.from_residual-in_err-right.result c.from_residual-in_err-right.ensures.1 in
-    let first = c.in_ok-first.ensures in
-    rw (p.1, p.2) (λ stack. along c.args.tokens.now _ _ _
-    (term_begins c.args.room stack _ ∙ first.2 (muls c.args.room ∷ stack) ∙ c.all.invariant.2 stack
-    ∙ take_at (muls c.args.room) stack _ c.in-Some.op _ (a_signed c.args.room ∷ muls c.args.room ∷ []) c.in-Some.ensures.0 (mul_on c.args.room c.in-Some.op.class (sym c.factors.ensures ∙ c.if-not-factors.false)))
-    (c.in_err-right.ensures (muls c.args.room ∷ stack)))
+pub chain-all-smaller : goal.chain-all-smaller
+chain-all-smaller t c = omega (arith, c.in-Some.ensures.1, operand_moved c.args.level c.args.room _ _ c.in_ok-right.ensures.0)
 
-pub sum-all-smaller : goal.sum-all-smaller
-sum-all-smaller t c = omega (arith, c.in-Some.ensures.1, c.in_ok-right.ensures.0)
-
-pub long_term-all-smaller : goal.long_term-all-smaller
-long_term-all-smaller t c = omega (arith, c.in-Some.ensures.1, c.in_ok-right.ensures.0)
-
-pub sum-all-preserved : goal.sum-all-preserved
-sum-all-preserved t c =
+pub chain-all-preserved : goal.chain-all-preserved
+chain-all-preserved t c =
     let right = c.in_ok-right.ensures in
-    let is_add = sym c.signs.ensures ∙ c.if-not-signs.false in (
-      omega (arith, c.all.invariant.0, right.0),
-      λ ns rest h. added_at c.args.room _ _ _ _ _ _ _ _ _ _ c.in_ok-add.ensures c.in-Some.ensures.0 is_add right.1 h (c.all.invariant.1 _ rest),
+    let part = joined c.args.level c.args.room in
+    let is_joined = sym c.joins.ensures ∙ c.if-not-joins.false in (
+      omega (arith, c.all.invariant.0, operand_moved c.args.level c.args.room _ _ right.0),
+      λ ns rest h. joined_at c.args.level c.args.room _ _ _ _ _ _ _ _ _ _ c.in_ok-add.ensures c.in-Some.ensures.0 is_joined right.1 h (c.all.invariant.1 _ rest),
       λ stack. c.all.invariant.2 stack
-          ∙ take_at (adds c.args.room) stack _ c.in-Some.op _ (a_term c.args.room ∷ adds c.args.room ∷ []) c.in-Some.ensures.0 (add_on c.args.room c.in-Some.op.class is_add)
-          ∙ right.2 (adds c.args.room ∷ stack),
-      c.all.invariant.3,
-    )
-
-pub long_term-all-preserved : goal.long_term-all-preserved
-long_term-all-preserved t c =
-    let right = c.in_ok-right.ensures in
-    let is_add = sym c.factors.ensures ∙ c.if-not-factors.false in (
-      omega (arith, c.all.invariant.0, right.0),
-      λ ns rest h. multiplied_at c.args.room _ _ _ _ _ _ _ _ _ _ c.in_ok-add.ensures c.in-Some.ensures.0 is_add right.1 h (c.all.invariant.1 _ rest),
-      λ stack. c.all.invariant.2 stack
-          ∙ take_at (muls c.args.room) stack _ c.in-Some.op _ (a_signed c.args.room ∷ muls c.args.room ∷ []) c.in-Some.ensures.0 (mul_on c.args.room c.in-Some.op.class is_add)
-          ∙ right.2 (muls c.args.room ∷ stack),
+          ∙ take_at part stack _ c.in-Some.op _ (an_operand c.args.level c.args.room ∷ part ∷ []) c.in-Some.ensures.0 (joins_on c.args.level c.args.room c.in-Some.op.class is_joined)
+          ∙ right.2 (part ∷ stack),
       c.all.invariant.3,
     )
 

@@ -4,42 +4,46 @@ use Rattle.ufl_syntax.specs.declared.tree.Syn.{Syn}
 use Rattle.ufl_syntax.specs.declared.tree.Next.{Next}
 use Rattle.ufl_syntax.specs.declared.tree.Post.{Post}
 use Rattle.ufl_syntax.specs.declared.tree.Arg.{Arg}
-use Rattle.ufl_syntax.specs.Grammar.{Later, Adds, Muls, Posts, Args}
-use Rattle.ufl_syntax.specs.Machine.{Part, run, a_later, adds, muls, posts, args}
+use Rattle.ufl_syntax.specs.Grammar.{Later, Posts, Args}
+use Rattle.ufl_syntax.specs.Machine.{Part, run, a_later, posts, args}
+use Rattle.ufl_read.proofs.LevelLaws.{Joined, joined, step}
 use Rattle.ufl_read.proofs.values.+reader.Given as goal
 
 abbrev pub decreases-argument : goal.decreases-argument
-decreases-argument l = l.room * 8 + 6
+decreases-argument l = l.room * 11 + 9
 
 abbrev pub decreases-arguments : goal.decreases-arguments
-decreases-arguments l = l.room * 8 + 7
+decreases-arguments l = l.room * 11 + 10
 
 abbrev pub decreases-atom : goal.decreases-atom
-decreases-atom l = l.room * 8
+decreases-atom l = l.room * 11
 
 abbrev pub decreases-later : goal.decreases-later
-decreases-later l = l.room * 8 + 6
+decreases-later l = l.room * 11 + 9
 
 abbrev pub decreases-post : goal.decreases-post
-decreases-post l = l.room * 8
+decreases-post l = l.room * 11
 
 abbrev pub decreases-postfix : goal.decreases-postfix
-decreases-postfix l = l.room * 8 + 1
+decreases-postfix l = l.room * 11 + 1
 
 abbrev pub decreases-signed : goal.decreases-signed
-decreases-signed l = l.room * 8 + 2
+decreases-signed l = l.room * 11 + 2
+
+abbrev pub decreases-operand : goal.decreases-operand
+decreases-operand l = l.room * 11 + step l.level
+
+abbrev pub decreases-chain : goal.decreases-chain
+decreases-chain l = l.room * 11 + step l.level + 1
 
 abbrev pub decreases-sum : goal.decreases-sum
-decreases-sum l = l.room * 8 + 5
+decreases-sum l = l.room * 11 + 8
 
 abbrev pub decreases-term : goal.decreases-term
-decreases-term l = l.room * 8 + 4
-
-abbrev pub decreases-long_term : goal.decreases-long_term
-decreases-long_term l = l.room * 8 + 3
+decreases-term l = l.room * 11 + 5
 
 abbrev pub decreases-value : goal.decreases-value
-decreases-value l = l.room * 8 + 7
+decreases-value l = l.room * 11 + 10
 
 abbrev pub invariant-arguments-all : goal.invariant-arguments-all
 invariant-arguments-all l =
@@ -70,22 +74,13 @@ invariant-postfix-all l =
 abbrev pub decreases-postfix-all : goal.decreases-postfix-all
 decreases-postfix-all l = length l.tokens - l.at
 
-abbrev pub invariant-sum-all : goal.invariant-sum-all
-invariant-sum-all l =
+abbrev pub invariant-chain-all : goal.invariant-chain-all
+invariant-chain-all l =
     (l.past ≤ l.at)
-    × ((ns : List Next) (rest : List Lexeme) → Adds l.room (drop l.at l.tokens) ns rest → Adds l.room (drop l.past l.tokens) (l.chain ++ ns) rest)
-    × ((stack : List Part) → run (adds l.room ∷ stack) (drop l.past l.tokens) ≡ run (adds l.room ∷ stack) (drop l.at l.tokens))
+    × ((ns : List Next) (rest : List Lexeme) → Joined l.level l.room (drop l.at l.tokens) ns rest
+    → Joined l.level l.room (drop l.past l.tokens) (l.chain ++ ns) rest)
+    × ((stack : List Part) → run (joined l.level l.room ∷ stack) (drop l.past l.tokens) ≡ run (joined l.level l.room ∷ stack) (drop l.at l.tokens))
     × (l.first ≡ l.initial.first)
 
-abbrev pub decreases-sum-all : goal.decreases-sum-all
-decreases-sum-all l = length l.tokens - l.at
-
-abbrev pub invariant-long_term-all : goal.invariant-long_term-all
-invariant-long_term-all l =
-    (l.past ≤ l.at)
-    × ((ns : List Next) (rest : List Lexeme) → Muls l.room (drop l.at l.tokens) ns rest → Muls l.room (drop l.past l.tokens) (l.chain ++ ns) rest)
-    × ((stack : List Part) → run (muls l.room ∷ stack) (drop l.past l.tokens) ≡ run (muls l.room ∷ stack) (drop l.at l.tokens))
-    × (l.first ≡ l.initial.first)
-
-abbrev pub decreases-long_term-all : goal.decreases-long_term-all
-decreases-long_term-all l = length l.tokens - l.at
+abbrev pub decreases-chain-all : goal.decreases-chain-all
+decreases-chain-all l = length l.tokens - l.at

@@ -1,5 +1,5 @@
--- The entries that the cells add have the form's values as their sums
-use Rattle.std.proofs.Common.{◌≡◌, ◌≢◌, ℕ, ◌<◌, ◌⊎◌, inl, inr, Bool, true, false, ◌||◌, ◌&&◌, refl, sym, ◌∙◌, ap, ap₂, List, [], ◌∷◌, ◌++◌, length, Option, None, Some, if◌then◌else◌}
+-- The shares of the cells add up to the values of the form by hat functions
+use Rattle.std.proofs.Common.{◌≡◌, ◌≢◌, ℕ, ◌<◌, ◌⊎◌, inl, inr, Bool, true, false, ◌||◌, ◌&&◌, refl, sym, ◌∙◌, ap, ap₂, List, [], ◌∷◌, length, Option, None, Some, if◌then◌else◌}
 use Rattle.std.specs.Prelude.{slice_get, ◌==◌}
 use Rattle.std.specs.List.{flat_map, AllByRecursion}
 use Rattle.std.proofs.Math.Dec.{eqb}
@@ -7,38 +7,32 @@ use Rattle.std.proofs.lemmas.Bool.{eqb-true, eq-eqb}
 use Rattle.std.proofs.lemmas.Bool.Decides.{eqb_tells}
 use Rattle.algebra.specs.Ring.{additive}
 use Rattle.algebra.specs.RingLaws as L
-use Rattle.algebra.specs.Fraction.{Fraction, fractions, zero_fraction, add, add_zero, mul, absolute, is_zero_fraction}
-use Rattle.algebra.specs.Steps.{sum}
+use Rattle.algebra.specs.Fraction.{Fraction, fractions, zero_fraction, add, add_zero}
 use Rattle.algebra.specs.Sums.{total}
 use Rattle.algebra.proofs.SumLaws.{total_in-append}
-use Rattle.calculus.specs.Polynomial.{Polynomial, nil, times, constant, polynomials, value}
-use Rattle.calculus.specs.Simplex.{Simplex, volume}
-use Rattle.calculus.specs.Integral.{cell_integral, integral_value}
+use Rattle.calculus.specs.Polynomial.{Polynomial, nil, times, constant, polynomials, times_comm}
+use Rattle.calculus.specs.Simplex.{Simplex}
+use Rattle.calculus.specs.Integral.{integral_value}
 use Rattle.calculus.specs.LocalFunction.{local_function}
-use Rattle.calculus.specs.Mass.{end_node, mass_factor, mass_density}
-use Rattle.calculus.proofs.PolynomialLaws.{constant-mul, constant-zero, value-constant}
-use Rattle.calculus.proofs.Linear.{cell_integral-scaled}
-use Rattle.calculus.proofs.MassShare.{mass_share}
-use Rattle.mesh_in.specs.MeshData.{MeshData}
+use Rattle.calculus.specs.Mass.{end_node, mass_density}
+use Rattle.kernel.specs.MassShare.{mass_share}
+use Rattle.mesh_in.specs.MeshData.{MeshData, IsCell}
 use Rattle.assembly.specs.Rows.{has_vertex, occurs, row_of}
-use Rattle.assembly.specs.Sums.{Entry, is_at, values_at, added, added_onto}
-use Rattle.form_values.specs.FormValues.{row_vertices, simplex_of, weights_at, basis_function, basis_of, density, value_over}
+use Rattle.assembly.specs.Sums.{Entry, values_at}
+use Rattle.refint.proofs.SharesLaw.{integral_nil}
+use Rattle.form_values.specs.HatFunctions.{row_vertices, weights_at, hat_function, hat_of_row, hat_density, hat_value_over, hat_value}
+use Rattle.form_values.specs.Problem.{corners_of}
+use Rattle.form_values.specs.Shares.{end_of, cell_shares, share_entries}
+use Rattle.form_values.proofs.EntrySums.{values_at-append}
+use Rattle.form_values.proofs.IntervalMeshes.{OnLine, simplex_is, IsMember, or_right, all_members, both, by_ends}
 use Rattle.form_values.proofs.RowLaws.{row_found, row_is}
 
 -- ---- integrals of what is a multiple of the mass density, or nothing
-nil_integral : (v : Simplex) → integral_value v nil ≡ zero_fraction
-nil_integral v =
-    ap (λ p. integral_value v p) (sym (L.mul-zero polynomials (constant zero_fraction)))
-    ∙ ap (value (λ i. zero_fraction)) (cell_integral-scaled v zero_fraction nil)
-    ∙ ap (λ p. value (λ i. zero_fraction) (times p (cell_integral v nil))) constant-zero
-    ∙ ap (value (λ i. zero_fraction)) (L.zero-mul polynomials (cell_integral v nil) ∙ sym constant-zero)
-    ∙ value-constant (λ i. zero_fraction) zero_fraction
-
 nothing_left : (v : Simplex) (c : Fraction) (p : Polynomial) → integral_value v (times (constant c) (times nil p)) ≡ zero_fraction
-nothing_left v c p = ap (integral_value v) (ap (times (constant c)) (L.zero-mul polynomials p) ∙ L.mul-zero polynomials (constant c)) ∙ nil_integral v
+nothing_left v c p = ap (integral_value v) (ap (times (constant c)) (L.zero-mul polynomials p) ∙ L.mul-zero polynomials (constant c)) ∙ integral_nil v
 
 nothing_right : (v : Simplex) (c : Fraction) (p : Polynomial) → integral_value v (times (constant c) (times p nil)) ≡ zero_fraction
-nothing_right v c p = ap (integral_value v) (ap (times (constant c)) (L.mul-zero polynomials p) ∙ L.mul-zero polynomials (constant c)) ∙ nil_integral v
+nothing_right v c p = ap (integral_value v) (ap (times (constant c)) (L.mul-zero polynomials p) ∙ L.mul-zero polynomials (constant c)) ∙ integral_nil v
 
 -- ---- one cell
 -- v where t, before what follows
@@ -86,25 +80,25 @@ same_some x y e = cc
 module _ (m : MeshData Fraction) (c : Fraction) (a b : ℕ) (apart : a ≢ b) (in_range : a < length m.points) (in_range' : b < length m.points)
     (first : occurs m.cells a ≡ true) (second : occurs m.cells b ≡ true) where
   abbrev S : Simplex
-  S = simplex_of m (a ∷ b ∷ [])
+  S = corners_of m (a ∷ b ∷ [])
 
   abbrev cell : List ℕ
   cell = a ∷ b ∷ []
 
-  with_test : (v : ℕ) (t : Bool) → has_vertex v cell ≡ t → basis_function m v cell ≡ (if t then local_function S (weights_at v cell) else nil)
+  with_test : (v : ℕ) (t : Bool) → has_vertex v cell ≡ t → hat_function m v cell ≡ (if t then local_function S (weights_at v cell) else nil)
   with_test v t h = ap (λ t. if t then local_function S (weights_at v cell) else nil) h
 
-  function_first : basis_function m a cell ≡ local_function S (end_node 0)
+  function_first : hat_function m a cell ≡ local_function S (end_node 0)
   function_first =
       with_test a true (ap (λ t. t || ((b == a) || false)) (eqb-same a))
       ∙ ap₂ (λ s t. local_function S ((if s then 1 else 0) ∷ (if t then 1 else 0) ∷ [])) (eqb-same a) (eqb-apart b a (λ e. apart (sym e)))
 
-  function_second : basis_function m b cell ≡ local_function S (end_node 1)
+  function_second : hat_function m b cell ≡ local_function S (end_node 1)
   function_second =
       with_test b true (ap₂ (λ s t. s || (t || false)) (eqb-apart a b apart) (eqb-same b))
       ∙ ap₂ (λ s t. local_function S ((if s then 1 else 0) ∷ (if t then 1 else 0) ∷ [])) (eqb-apart a b apart) (eqb-same b)
 
-  function_other : (v : ℕ) → a ≢ v → b ≢ v → basis_function m v cell ≡ nil
+  function_other : (v : ℕ) → a ≢ v → b ≢ v → hat_function m v cell ≡ nil
   function_other v n n' = with_test v false (ap₂ (λ s t. s || (t || false)) (eqb-apart a v n) (eqb-apart b v n'))
 
   found_first : slice_get (row_vertices m) (row_of m.cells a) ≡ Some a
@@ -118,21 +112,21 @@ module _ (m : MeshData Fraction) (c : Fraction) (a b : ℕ) (apart : a ≢ b) (i
       apart (same_some a b (sym found_first ∙ ap (slice_get (row_vertices m)) (eqb-true _ r h ∙ sym (eqb-true _ r h')) ∙ found_second))
 
   -- the basis function of a row or column on the cell
-  function_of : (r : ℕ) → basis_of m (slice_get (row_vertices m) r) cell ≡ at_corner S (eqb (row_of m.cells a) r) (eqb (row_of m.cells b) r)
+  function_of : (r : ℕ) → hat_of_row m (slice_get (row_vertices m) r) cell ≡ at_corner S (eqb (row_of m.cells a) r) (eqb (row_of m.cells b) r)
   function_of r = go (eqb_tells (row_of m.cells a) r) (eqb_tells (row_of m.cells b) r)
     where
-      neither : (o : Option ℕ) → ((v : ℕ) → o ≡ Some v → (a ≢ v) × (b ≢ v)) → basis_of m o cell ≡ nil
+      neither : (o : Option ℕ) → ((v : ℕ) → o ≡ Some v → (a ≢ v) × (b ≢ v)) → hat_of_row m o cell ≡ nil
       neither None h = refl
       neither (Some v) h = let n = h v refl in function_other v n.0 n.1
 
       go : ((eqb (row_of m.cells a) r ≡ true) × (row_of m.cells a ≡ r)) ⊎ ((eqb (row_of m.cells a) r ≡ false) × (row_of m.cells a ≢ r))
           → ((eqb (row_of m.cells b) r ≡ true) × (row_of m.cells b ≡ r)) ⊎ ((eqb (row_of m.cells b) r ≡ false) × (row_of m.cells b ≢ r))
-          → basis_of m (slice_get (row_vertices m) r) cell ≡ at_corner S (eqb (row_of m.cells a) r) (eqb (row_of m.cells b) r)
+          → hat_of_row m (slice_get (row_vertices m) r) cell ≡ at_corner S (eqb (row_of m.cells a) r) (eqb (row_of m.cells b) r)
       go (inl (t, e)) other =
-          ap (λ o. basis_of m o cell) (ap (slice_get (row_vertices m)) (sym e) ∙ found_first) ∙ function_first
+          ap (λ o. hat_of_row m o cell) (ap (slice_get (row_vertices m)) (sym e) ∙ found_first) ∙ function_first
           ∙ sym (ap (λ t. at_corner S t (eqb (row_of m.cells b) r)) t)
       go (inr (t, e)) (inl (t', e')) =
-          ap (λ o. basis_of m o cell) (ap (slice_get (row_vertices m)) (sym e') ∙ found_second) ∙ function_second
+          ap (λ o. hat_of_row m o cell) (ap (slice_get (row_vertices m)) (sym e') ∙ found_second) ∙ function_second
           ∙ sym (ap₂ (at_corner S) t t')
       go (inr (t, e)) (inr (t', e')) =
           neither (slice_get (row_vertices m) r) (λ v h.
@@ -145,67 +139,62 @@ module _ (m : MeshData Fraction) (c : Fraction) (a b : ℕ) (apart : a ≢ b) (i
       ∷ record { row = row_of m.cells a; col = row_of m.cells b; value = node_value S c 0 1 }
       ∷ record { row = row_of m.cells b; col = row_of m.cells a; value = node_value S c 1 0 }
       ∷ record { row = row_of m.cells b; col = row_of m.cells b; value = node_value S c 1 1 } ∷ []
-      → (r s : ℕ) → total (values_at entries r s) ≡ integral_value S (density m c (slice_get (row_vertices m) r) (slice_get (row_vertices m) s) cell)
+      → (r s : ℕ) → total (values_at entries r s) ≡ integral_value S (hat_density m c (slice_get (row_vertices m) r) (slice_get (row_vertices m) s) cell)
   cell_sum entries e r s =
       ap (λ es. total (values_at es r s)) e
       ∙ four_values S c (eqb (row_of m.cells a) r) (eqb (row_of m.cells b) r) (eqb (row_of m.cells a) s) (eqb (row_of m.cells b) s) (rows_apart r) (rows_apart s)
       ∙ sym (ap₂ (λ p q. integral_value S (times (constant c) (times p q))) (function_of s) (function_of r))
 
--- ---- the values at two nodes
-scaled_constant : (v : Simplex) (c x : Fraction) (p : Polynomial) → cell_integral v p ≡ constant x → integral_value v (times (constant c) p) ≡ mul c x
-scaled_constant v c x p h =
-    ap (value (λ i. zero_fraction)) (cell_integral-scaled v c p ∙ ap (times (constant c)) h ∙ sym (constant-mul c x))
-    ∙ value-constant (λ i. zero_fraction) (mul c x)
-
--- on a cell that is not flat it is c times the length, over 3 or over 6
-pub node_value_is : (m : MeshData Fraction) (c : Fraction) (a b : ℕ) → is_zero_fraction (volume (simplex_of m (a ∷ b ∷ []))) ≡ false → (j k : ℕ)
-    → node_value (simplex_of m (a ∷ b ∷ [])) c j k ≡ mul c (mul (absolute (volume (simplex_of m (a ∷ b ∷ [])))) (mass_factor k j))
-node_value_is m c a b h j k = scaled_constant (simplex_of m (a ∷ b ∷ [])) c _ _ (mass_share _ _ h k j)
-
 -- ---- all cells
-pub values_at-append : (es fs : List Entry) (r s : ℕ) → values_at (es ++ fs) r s ≡ values_at es r s ++ values_at fs r s
-values_at-append [] fs r s = refl
-values_at-append (e ∷ es) fs r s = go (is_at r s e) (values_at-append es fs r s)
-  where
-    go : (t : Bool) → values_at (es ++ fs) r s ≡ values_at es r s ++ values_at fs r s
-        → (if t then e.value ∷ values_at (es ++ fs) r s else values_at (es ++ fs) r s) ≡ (if t then e.value ∷ values_at es r s else values_at es r s) ++ values_at fs r s
-    go true h = ap (λ l. e.value ∷ l) h
-    go false h = h
-
 -- what each cell adds has the integrals over it as its sums
 abbrev pub AddsIntegrals : MeshData Fraction → Fraction → (List ℕ → List Entry) → List ℕ → Type 0
 AddsIntegrals m c entries cell =
-    (r s : ℕ) → total (values_at (entries cell) r s) ≡ integral_value (simplex_of m cell) (density m c (slice_get (row_vertices m) r) (slice_get (row_vertices m) s) cell)
+    (r s : ℕ) → total (values_at (entries cell) r s) ≡ integral_value (corners_of m cell) (hat_density m c (slice_get (row_vertices m) r) (slice_get (row_vertices m) s) cell)
 
 pub all_cells_sum : (m : MeshData Fraction) (c : Fraction) (entries : List ℕ → List Entry) (cells : List (List ℕ)) → AllByRecursion (AddsIntegrals m c entries) cells
-    → (r s : ℕ) → total (values_at (flat_map entries cells) r s) ≡ value_over m c (slice_get (row_vertices m) r) (slice_get (row_vertices m) s) cells
+    → (r s : ℕ) → total (values_at (flat_map entries cells) r s) ≡ hat_value_over m c (slice_get (row_vertices m) r) (slice_get (row_vertices m) s) cells
 all_cells_sum m c entries [] h r s = refl
 all_cells_sum m c entries (cell ∷ cells) h r s =
     ap total (values_at-append (entries cell) (flat_map entries cells) r s)
     ∙ total_in-append (additive fractions) (values_at (entries cell) r s) (values_at (flat_map entries cells) r s)
     ∙ ap₂ add (h.0 r s) (all_cells_sum m c entries cells h.1 r s)
 
--- ---- adding up in order gives the sum
-sum_is : (x y z : Fraction) → sum x y ≡ Some z → z ≡ add x y
-unfolding sum
-sum_is x y z h = go _ h
+-- ---- the shares
+-- a share is the value at two nodes
+share_is : (mesh : MeshData Fraction) (c : Fraction) (a b j k : ℕ) → OnLine mesh → a < length mesh.points → b < length mesh.points
+    → mass_share c (end_of mesh (a ∷ b ∷ []) 0) (end_of mesh (a ∷ b ∷ []) 1) j k ≡ node_value (corners_of mesh (a ∷ b ∷ [])) c j k
+share_is mesh c a b j k line h i =
+    ap (λ s. integral_value s (times (constant c) (mass_density s j k))) (sym (simplex_is mesh a b line h i))
+    ∙ ap (λ p. integral_value (corners_of mesh (a ∷ b ∷ [])) (times (constant c) p)) (times_comm _ _)
+
+abbrev four_entries : ℕ → ℕ → Fraction → Fraction → Fraction → Fraction → List Entry
+four_entries r s p q t u =
+    record { row = r; col = r; value = p } ∷ record { row = r; col = s; value = q } ∷ record { row = s; col = r; value = t } ∷ record { row = s; col = s; value = u } ∷ []
+
+shares_at : (mesh : MeshData Fraction) (c : Fraction) (a b : ℕ) → OnLine mesh → a < length mesh.points → b < length mesh.points
+    → cell_shares mesh c (a ∷ b ∷ [])
+    ≡ four_entries (row_of mesh.cells a) (row_of mesh.cells b) (node_value (corners_of mesh (a ∷ b ∷ [])) c 0 0) (node_value (corners_of mesh (a ∷ b ∷ [])) c 0 1)
+    (node_value (corners_of mesh (a ∷ b ∷ [])) c 1 0) (node_value (corners_of mesh (a ∷ b ∷ [])) c 1 1)
+shares_at mesh c a b line h k =
+    ap₂ (λ p q. four_entries (row_of mesh.cells a) (row_of mesh.cells b) p q (share 1 0) (share 1 1)) (share_is mesh c a b 0 0 line h k) (share_is mesh c a b 0 1 line h k)
+    ∙ ap₂ (λ p q. four_entries (row_of mesh.cells a) (row_of mesh.cells b) (node_value (corners_of mesh (a ∷ b ∷ [])) c 0 0) (node_value (corners_of mesh (a ∷ b ∷ [])) c 0 1) p q)
+    (share_is mesh c a b 1 0 line h k) (share_is mesh c a b 1 1 line h k)
   where
-    go : (t : Bool) → (if t then Some (add x y) else None) ≡ Some z → z ≡ add x y
-    go true e = sym (same_some _ _ e)
-    go false e = cc
+    share : ℕ → ℕ → Fraction
+    share j k = mass_share c (end_of mesh (a ∷ b ∷ []) 0) (end_of mesh (a ∷ b ∷ []) 1) j k
 
-added_onto_none : (xs : List Fraction) (z : Fraction) → added_onto None xs ≡ Some z → ⊥
-added_onto_none [] z h = cc
-added_onto_none (x ∷ xs) z h = added_onto_none xs z h
+adds_integrals : (mesh : MeshData Fraction) (c : Fraction) → OnLine mesh → (cell : List ℕ) → IsCell 1 (length mesh.points) cell → IsMember mesh.cells cell → AddsIntegrals mesh c (cell_shares mesh c) cell
+adds_integrals mesh c line cell is member =
+    by_ends (λ cell. IsMember mesh.cells cell → AddsIntegrals mesh c (cell_shares mesh c) cell) (length mesh.points)
+    (λ a b apart h k member. cell_sum mesh c a b apart h k
+    (member (has_vertex a) (ap (λ t. t || ((b == a) || false)) (eq-eqb a a refl)))
+    (member (has_vertex b) (or_right (a == b) ((b == b) || false) (ap (λ t. t || false) (eq-eqb b b refl))))
+    (cell_shares mesh c (a ∷ b ∷ [])) (shares_at mesh c a b line h k))
+    cell is member
 
-added_onto_is : (xs : List Fraction) (x z : Fraction) → added_onto (Some x) xs ≡ Some z → z ≡ add x (total xs)
-added_onto_is [] x z h = sym (same_some _ _ h) ∙ sym (add_zero x)
-added_onto_is (y ∷ ys) x z h = go (λ u k. added_onto_is ys u z k) (sum x y) refl h
-  where
-    go : ((u : Fraction) → added_onto (Some u) ys ≡ Some z → z ≡ add u (total ys)) → (o : Option Fraction) → sum x y ≡ o → added_onto o ys ≡ Some z → z ≡ add x (add y (total ys))
-    go rest None e k = absurd (added_onto_none ys z k)
-    go rest (Some u) e k = rest u k ∙ ap (λ w. add w (total ys)) (sum_is x y u e) ∙ fractions.add_assoc x y (total ys)
-
-pub added_is_total : (xs : List Fraction) (z : Fraction) → added xs ≡ Some z → z ≡ total xs
-added_is_total [] z h = sym (same_some _ _ h)
-added_is_total (x ∷ xs) z h = added_onto_is xs x z h
+-- the shares of the cells add up to the values of the form
+pub share_values : (mesh : MeshData Fraction) (c : Fraction) → OnLine mesh → AllByRecursion (IsCell 1 (length mesh.points)) mesh.cells
+    → (row col : ℕ) → total (values_at (share_entries mesh c) row col) ≡ hat_value mesh c row col
+unfolding hat_value
+share_values mesh c line cells row col =
+    all_cells_sum mesh c (cell_shares mesh c) mesh.cells (both (IsCell 1 (length mesh.points)) (IsMember mesh.cells) (AddsIntegrals mesh c (cell_shares mesh c)) mesh.cells (adds_integrals mesh c line) cells (all_members mesh.cells)) row col
