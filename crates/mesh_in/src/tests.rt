@@ -33,6 +33,7 @@ fn reads_markers(rt: HostRuntime) -> Result<(), Fail> {
         rt.alloc(),
         b"mesh 2 interval 3 3\n0\n1\n2\n0 1 0\n1 2 007\n2 0 4294967295",
     )?;
+    assert_eq!(rt; mesh.cells(), 3);
     assert_eq!(rt; mesh.cell(0).marker, 0);
     assert_eq!(rt; mesh.cell(1).vertices, [1, 2].as_slice());
     assert_eq!(rt; mesh.cell(1).marker, 7);
