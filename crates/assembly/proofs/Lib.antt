@@ -4,3 +4,8 @@ pub mod RowsLaws
 pub mod CellLaws
 pub mod SumsLaws
 pub mod MatrixLaws
+pub mod RowSumsLaws
+pub mod PlacedLaws
+pub mod StoredLaws
+pub mod GatherLaws
+pub mod WholeLaws

@@ -2,9 +2,15 @@
 //! computed, and the values of an entry are added up in the order of the cells.
 #![tactic(auto)]
 
+pub mod by_rows;
+mod coef_data;
+mod funs;
 mod mass;
 mod refusal;
+mod row_sums;
 mod rows;
+mod run_refusal;
+mod stored;
 mod sums;
 mod triple;
 
