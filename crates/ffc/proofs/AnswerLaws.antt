@@ -1,5 +1,5 @@
 -- From the run to the outcome
-use Rattle.std.proofs.Common.{◌≡◌, ℕ, List, [], ◌∷◌, ◌++◌, codes, Option, refl, sym, ap, subst, length, map, ◌∙◌, inl, inr}
+use Rattle.std.proofs.Common.{◌≡◌, ℕ, List, [], ◌∷◌, ◌++◌, codes, Option, refl, sym, ap, subst, length, map, ◌∙◌, inr}
 use Rattle.std.proofs.lemmas.List.{length-map}
 use Rattle.ratio.specs.Value.{fraction_of}
 use Rattle.ratio.specs.declared.reduced.Ratio.{Ratio}
@@ -13,24 +13,16 @@ use Rattle.form_values.proofs.IntervalMeshes.{mesh_of_values}
 use Rattle.form_values.proofs.MassCase.{mass_rows}
 use Rattle.assembly.specs.Sums.{Entry}
 use Rattle.assembly.specs.declared.refusal.RunRefusal.{RunRefusal}
-use Rattle.assembly.specs.declared.refusal.RunRefusal.TheVariants as run
 use Rattle.assembly.specs.Rows.{row_of}
-use Rattle.ffc.specs.Inputs.{Loads, loads, HasForm, FormCause, HasMesh, MeshCause}
+use Rattle.ffc.specs.Inputs.{Loads, HasForm, HasMesh}
 use Rattle.ffc.specs.Assemble.{AssembleCause, IsMatrixText, values_text}
-use Rattle.ffc.specs.Answer.{AnswersWords, IsRefusal, HasCause}
+use Rattle.ffc.specs.Answer.{AnswersWords, HasCause}
 use Rattle.answers.specs.Outcome.{run_outcome}
 use Rattle.ffc.specs.Words.{assemble_words}
 use Rattle.answers.specs.MatrixText.{matrix_text}
 use Rattle.answers.specs.declared.outcome.Outcome.{Outcome}
-use Rattle.answers.specs.declared.outcome.Outcome.TheVariants.{Done, Usage, Form, Mesh, Passed, ReadFault, WriteFault, Memory}
 
 -- ---- causes
-
--- why there is no mesh, after a form was loaded, which changed neither what is told nor the count of faults
-pub mesh_cause : (content other : Option (List Held)) (before after now : ℕ) (failed form mesh : List ℕ) (c : Fraction) (o : Outcome) → other ≡ content → after ≡ before
-    → HasForm content form c → MeshCause (loads other after now failed) mesh o → AssembleCause (loads content before now failed) form mesh o
-mesh_cause content other before after now failed form mesh c o e f h m =
-    inr (c, h, inl (subst (λ (b : ℕ). MeshCause (loads content b now failed) mesh o) f (subst (λ (k : Option (List Held)). MeshCause (loads k after now failed) mesh o) e m)))
 
 pub same_mesh : (content other : Option (List Held)) (mesh : List ℕ) (m : MeshData Fraction) → other ≡ content → HasMesh other mesh m → HasMesh content mesh m
 same_mesh content other mesh m e h = subst (λ (k : Option (List Held)). HasMesh k mesh m) e h
@@ -39,39 +31,6 @@ same_mesh content other mesh m e h = subst (λ (k : Option (List Held)). HasMesh
 pub run_cause : (l : Loads) (form mesh : List ℕ) (c : Fraction) (m : MeshData Fraction) (e : RunRefusal) → HasForm l.content form c → HasMesh l.content mesh m → Refuses m c e
     → AssembleCause l form mesh (run_outcome e)
 run_cause l form mesh c m e h k r = inr (c, h, inr (m, k, (e, refl, r)))
-
--- ---- what has a cause is a refusal
-
-pub form_refuses : (l : Loads) (name : List ℕ) (o : Outcome) → FormCause l name o → IsRefusal o
-form_refuses l name (Form r) h = tt
-form_refuses l name Done h = h
-form_refuses l name Usage h = h
-form_refuses l name (Mesh r) h = tt
-form_refuses l name (Passed s) h = tt
-form_refuses l name (ReadFault k) h = tt
-form_refuses l name WriteFault h = h
-form_refuses l name Memory h = tt
-
-mesh_refuses : (l : Loads) (name : List ℕ) (o : Outcome) → MeshCause l name o → IsRefusal o
-mesh_refuses l name (Form r) h = tt
-mesh_refuses l name Done h = h
-mesh_refuses l name Usage h = h
-mesh_refuses l name (Mesh r) h = tt
-mesh_refuses l name (Passed s) h = tt
-mesh_refuses l name (ReadFault k) h = tt
-mesh_refuses l name WriteFault h = h
-mesh_refuses l name Memory h = tt
-
-run_refuses : (e : RunRefusal) → IsRefusal (run_outcome e)
-run_refuses (run.Zero cell at) = tt
-run_refuses (run.CellPassed cell at op left right) = tt
-run_refuses (run.SumPassed row col) = tt
-run_refuses run.Memory = tt
-
-pub assemble_refuses : (l : Loads) (form mesh : List ℕ) (o : Outcome) → AssembleCause l form mesh o → IsRefusal o
-assemble_refuses l form mesh o (inl h) = form_refuses l form o h
-assemble_refuses l form mesh o (inr (c, k, inl h)) = mesh_refuses l mesh o h
-assemble_refuses l form mesh o (inr (c, k, inr (m, i, (e, is, r)))) = subst IsRefusal (sym is) (run_refuses e)
 
 -- ---- the cause of the words
 

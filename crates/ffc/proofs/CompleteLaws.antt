@@ -9,7 +9,7 @@ use Rattle.mesh_in.specs.declared.refusal.MeshRefusal.{MeshRefusal}
 use Rattle.form_values.specs.Shares.{HasMatrix}
 use Rattle.form_values.proofs.ShareLaws.{only_memory}
 use Rattle.ffc.specs.FormFile.{IsForm}
-use Rattle.ffc.specs.Inputs.{Loads, IsText, IsFormFile, HasForm, FormRefuses, FormCause, IsIntervals, HasMesh, MeshRefuses, MeshCause}
+use Rattle.ffc.specs.Inputs.{Loads, IsText, IsFormFile, HasForm, FormRefuses, LoadCause, FormCause, IsIntervals, HasMesh, MeshRefuses, MeshCause}
 use Rattle.ffc.specs.Assemble.{RunCause, AssembleCause}
 use Rattle.ffc.specs.Answer.{HasCause, IsCaused, HoldForm, HoldMesh, CanAnswer, Compiles, Assembles, IsComplete}
 use Rattle.answers.specs.Outcome.{run_outcome}
@@ -31,16 +31,14 @@ no_refusal : (kind : FormKind) (line : ℕ) (text : List ℕ) (c : Fraction) →
 no_refusal form.TooLong line text c f h = absurd (omega (arith, h.0, f.short))
 no_refusal form.NotYet line text c f h = h.1 c f.states
 
+load_accepted : (l : Loads) (file : ℕ) (name : List ℕ) (o : Outcome) → ¬ Rises l.before l.now → LoadCause l file name o → o ≡ Memory
+load_accepted l file name o still (inl is) = is
+load_accepted l file name o still (inr (is, rises, failed)) = absurd (still rises)
+
 form_accepted : (l : Loads) (files : List Held) (name : List ℕ) (c : Fraction) (o : Outcome) → l.content ≡ Some files → HoldForm files name c → ¬ Rises l.before l.now → FormCause l name o → o ≡ Memory
-form_accepted l files name c (Form r) told (text, held, f) still (other, is, h) =
+form_accepted l files name c o told holds still (inl h) = load_accepted l 1 name o still h
+form_accepted l files name c o told (text, held, f) still (inr (r, other, same, is, h)) =
     absurd (no_refusal r.kind r.line text c f (subst (FormRefuses r.kind r.line) (same_text files l.content name text other told held is) h))
-form_accepted l files name c Done told holds still h = absurd h
-form_accepted l files name c Usage told holds still h = absurd h
-form_accepted l files name c (Mesh r) told holds still h = absurd h
-form_accepted l files name c (Passed s) told holds still h = absurd h
-form_accepted l files name c (ReadFault k) told holds still h = absurd (still h.1)
-form_accepted l files name c WriteFault told holds still h = absurd h
-form_accepted l files name c Memory told holds still h = refl
 
 -- its factor is the one that is accepted
 same_factor : (content : Option (List Held)) (files : List Held) (name : List ℕ) (c d : Fraction) → content ≡ Some files → HoldForm files name c → HasForm content name d → d ≡ c
@@ -60,15 +58,9 @@ no_mesh_refusal r text m (is, interval) (inl h) = apart (sym is ∙ h)
 no_mesh_refusal r text m (is, interval) (inr (n, h, other, refused)) = other (ap (λ (x : MeshData Fraction). x.kind) (same_ok n m (sym h ∙ is)) ∙ interval)
 
 mesh_accepted : (l : Loads) (files : List Held) (name : List ℕ) (m : MeshData Fraction) (o : Outcome) → l.content ≡ Some files → HoldMesh files name m → ¬ Rises l.before l.now → MeshCause l name o → o ≡ Memory
-mesh_accepted l files name m (Mesh r) told (text, held, f) still (other, is, h) =
+mesh_accepted l files name m o told holds still (inl h) = load_accepted l 2 name o still h
+mesh_accepted l files name m o told (text, held, f) still (inr (r, other, same, is, h)) =
     absurd (no_mesh_refusal r text m f (subst (MeshRefuses r) (same_text files l.content name text other told held is) h))
-mesh_accepted l files name m Done told holds still h = absurd h
-mesh_accepted l files name m Usage told holds still h = absurd h
-mesh_accepted l files name m (Form r) told holds still h = absurd h
-mesh_accepted l files name m (Passed s) told holds still h = absurd h
-mesh_accepted l files name m (ReadFault k) told holds still h = absurd (still h.1)
-mesh_accepted l files name m WriteFault told holds still h = absurd h
-mesh_accepted l files name m Memory told holds still h = refl
 
 same_mesh : (content : Option (List Held)) (files : List Held) (name : List ℕ) (m n : MeshData Fraction) → content ≡ Some files → HoldMesh files name m → HasMesh content name n → n ≡ m
 same_mesh content files name m n told (text, held, f) (other, is, g) =

@@ -6,17 +6,16 @@ use Rattle.algebra.specs.Fraction.{Fraction}
 use Rattle.mesh_in.specs.MeshText.{meaning, longest}
 use Rattle.mesh_in.specs.MeshData.{MeshData}
 use Rattle.mesh_in.specs.Refusal.{refusal}
-use Rattle.mesh_in.specs.HeaderLine.{IsWrongCell}
+use Rattle.mesh_in.specs.HeaderLine.{IsWrongCell, header_line}
 use Rattle.mesh_in.specs.Reader.{Fails}
 use Rattle.spaces.specs.declared.cell.Cell.TheVariants.{Interval}
 use Rattle.mesh_in.proofs.ReadingLemmas.{long_text}
 use Rattle.mesh_in.specs.declared.refusal.MeshKind.{MeshKind}
 use Rattle.mesh_in.specs.declared.refusal.MeshKind.TheVariants as kind
 use Rattle.mesh_in.specs.declared.refusal.MeshRefusal.{MeshRefusal}
-use Rattle.ffc.specs.Inputs.{Loads, IsText, LoadCause, FormCause, MeshCause}
+use Rattle.ffc.specs.Inputs.{Loads, IsText, MeshCause}
 use Rattle.answers.specs.Outcome.{mesh_outcome, outcome_of_kind}
 use Rattle.answers.specs.declared.outcome.Outcome.{Outcome}
-use Rattle.answers.specs.declared.outcome.Outcome.TheVariants.{Done, Usage, Form, Mesh, Passed, ReadFault, WriteFault, Memory}
 
 -- the extra byte is there
 pub too_long : (text bytes : List ℕ) (n : ℕ) → take (n + 1) text ≡ bytes → n < length bytes → n < length text
@@ -57,16 +56,16 @@ mesh_whole text bytes m e is =
     apart m r k = cc
 
 by_kind : (l : Loads) (name text : List ℕ) (r : MeshRefusal) (k : MeshKind) → IsText l.content name text → meaning text ≡ Err r → MeshCause l name (outcome_of_kind k r)
-by_kind l name text r kind.TooLong t e = (text, t, inl e)
-by_kind l name text r kind.Lex t e = (text, t, inl e)
-by_kind l name text r kind.Syntax t e = (text, t, inl e)
-by_kind l name text r kind.Count t e = (text, t, inl e)
-by_kind l name text r kind.VertexRange t e = (text, t, inl e)
-by_kind l name text r kind.RepeatedVertex t e = (text, t, inl e)
-by_kind l name text r kind.WrongCell t e = (text, t, inl e)
-by_kind l name text r kind.Degenerate t e = (text, t, inl e)
-by_kind l name text r kind.TooManyEntries t e = (text, t, inl e)
-by_kind l name text r kind.Memory t e = tt
+by_kind l name text r kind.TooLong t e = inr (r, text, refl, t, inl e)
+by_kind l name text r kind.Lex t e = inr (r, text, refl, t, inl e)
+by_kind l name text r kind.Syntax t e = inr (r, text, refl, t, inl e)
+by_kind l name text r kind.Count t e = inr (r, text, refl, t, inl e)
+by_kind l name text r kind.VertexRange t e = inr (r, text, refl, t, inl e)
+by_kind l name text r kind.RepeatedVertex t e = inr (r, text, refl, t, inl e)
+by_kind l name text r kind.WrongCell t e = inr (r, text, refl, t, inl e)
+by_kind l name text r kind.Degenerate t e = inr (r, text, refl, t, inl e)
+by_kind l name text r kind.TooManyEntries t e = inr (r, text, refl, t, inl e)
+by_kind l name text r kind.Memory t e = inl (inl refl)
 
 -- a mesh of other cells
 wrong_cell : (text bytes : List ℕ) (r : MeshRefusal) → take (longest + 1) text ≡ bytes → IsWrongCell Interval bytes r → IsWrongCell Interval text r
@@ -74,34 +73,12 @@ wrong_cell text bytes r e (m, is, other, refused) = subst (λ (b : List ℕ). Is
 
 by_cell : (l : Loads) (name text : List ℕ) (r : MeshRefusal) → IsText l.content name text → IsWrongCell Interval text r → MeshCause l name (mesh_outcome r)
 by_cell l name text r t (m, is, other, refused) =
-    subst (λ (s : MeshRefusal). MeshCause l name (mesh_outcome s)) (sym refused) (text, t, inr (m, is, other, refl))
+    subst (λ (s : MeshRefusal). MeshCause l name (mesh_outcome s)) (sym refused) (inr (refusal kind.WrongCell (header_line text), text, refl, t, inr (m, is, other, refl)))
 
 -- a refusal of the text as the outcome
 pub mesh_fits : (l : Loads) (name text bytes lent : List ℕ) (r : MeshRefusal) (o : Outcome) → IsText l.content name text → take (longest + 1) text ≡ bytes → lent ≡ bytes
     → Fails r (meaning lent) ⊎ IsWrongCell Interval lent r → o ≡ mesh_outcome r → MeshCause l name o
-mesh_fits l name text bytes lent r o t e same (inl (inl memory)) is = subst (MeshCause l name) (sym is) (subst (λ (s : MeshRefusal). MeshCause l name (mesh_outcome s)) (sym memory) tt)
+mesh_fits l name text bytes lent r o t e same (inl (inl memory)) is = subst (MeshCause l name) (sym is) (subst (λ (s : MeshRefusal). MeshCause l name (mesh_outcome s)) (sym memory) (inl (inl refl)))
 mesh_fits l name text bytes lent r o t e same (inl (inr refused)) is = subst (MeshCause l name) (sym is) (by_kind l name text r r.kind t (sym (ap meaning same ∙ same_meaning text bytes e) ∙ refused))
 mesh_fits l name text bytes lent r o t e same (inr wrong) is =
     subst (MeshCause l name) (sym is) (by_cell l name text r t (wrong_cell text bytes r e (subst (λ (b : List ℕ). IsWrongCell Interval b r) same wrong)))
-
--- ---- a file that was not loaded
-
-pub no_form : (l : Loads) (name : List ℕ) (o : Outcome) → LoadCause l 1 name o → FormCause l name o
-no_form l name (Form r) h = absurd h
-no_form l name Done h = h
-no_form l name Usage h = h
-no_form l name (Mesh r) h = h
-no_form l name (Passed s) h = h
-no_form l name (ReadFault k) h = h
-no_form l name WriteFault h = h
-no_form l name Memory h = h
-
-pub no_mesh : (l : Loads) (name : List ℕ) (o : Outcome) → LoadCause l 2 name o → MeshCause l name o
-no_mesh l name (Mesh r) h = absurd h
-no_mesh l name Done h = h
-no_mesh l name Usage h = h
-no_mesh l name (Form r) h = h
-no_mesh l name (Passed s) h = h
-no_mesh l name (ReadFault k) h = h
-no_mesh l name WriteFault h = h
-no_mesh l name Memory h = h

@@ -1,5 +1,5 @@
 -- The function of the form has a name of C and makes few statements, so its text is read back
-use Rattle.std.proofs.Common.{◌≡◌, refl, sym, subst, ◌≤◌, true, [], codes, lit≤}
+use Rattle.std.proofs.Common.{◌≡◌, refl, sym, subst, true, [], lit≤}
 use Rattle.std.proofs.Math.Nat.{le_trans}
 use Rattle.algebra.specs.Fraction.{Fraction}
 use Rattle.c_unit.specs.declared.unit.CFun.{CFun}

@@ -11,6 +11,7 @@ use Rattle.mesh_in.specs.declared.refusal.MeshRefusal.{MeshRefusal}
 use Rattle.ffc.specs.FormFile.{IsForm, IsNoForm, IsOff}
 use Rattle.mesh_in.specs.HeaderLine.{IsWrongCell}
 use Rattle.answers.specs.declared.outcome.FormKind.{FormKind}
+use Rattle.answers.specs.declared.outcome.FormRefusal.{FormRefusal}
 use Rattle.answers.specs.declared.outcome.FormKind.TheVariants as form
 use Rattle.answers.specs.declared.outcome.Outcome.{Outcome}
 use Rattle.answers.specs.declared.outcome.Outcome.TheVariants.{Form, Mesh, ReadFault, Memory}
@@ -34,9 +35,7 @@ IsText (Some files) name text = bytes_of files name ≡ Some text
 
 -- why the file with this number was not loaded: there was a fault, and its name is the last failed one; or memory was wanting
 abbrev pub LoadCause : Loads → ℕ → List ℕ → Outcome → Type 0
-LoadCause l file name (ReadFault k) = (k ≡ file) × Rises l.before l.now × (l.failed ≡ name)
-LoadCause l file name Memory = Unit {0}
-LoadCause l file name _ = ⊥
+LoadCause l file name o = (o ≡ Memory) ⊎ ((o ≡ ReadFault file) × Rises l.before l.now × (l.failed ≡ name))
 
 -- ---- the form: file 1
 
@@ -54,10 +53,11 @@ abbrev pub FormRefuses : FormKind → ℕ → List ℕ → Type 0
 FormRefuses form.TooLong line text = (FORM_LIMIT < length text) × (line ≡ 0)
 FormRefuses form.NotYet line text = (length text ≤ FORM_LIMIT) × IsNoForm text × IsOff line text
 
--- why there is no form
+-- why there is no form: its file was not loaded, or is refused
 abbrev pub FormCause : Loads → List ℕ → Outcome → Type 0
-FormCause l name (Form r) = (text : List ℕ) × IsText l.content name text × FormRefuses r.kind r.line text
-FormCause l name o = LoadCause l 1 name o
+FormCause l name o =
+    LoadCause l 1 name o
+    ⊎ ((r : FormRefusal) × (text : List ℕ) × (o ≡ Form r) × IsText l.content name text × FormRefuses r.kind r.line text)
 
 -- ---- the mesh: file 2
 
@@ -72,7 +72,8 @@ HasMesh content name m = (text : List ℕ) × IsText content name text × IsInte
 abbrev pub MeshRefuses : MeshRefusal → List ℕ → Type 0
 MeshRefuses r text = (meaning text ≡ Err r) ⊎ IsWrongCell Interval text r
 
--- why there is no mesh
+-- why there is no mesh: its file was not loaded, or is refused
 abbrev pub MeshCause : Loads → List ℕ → Outcome → Type 0
-MeshCause l name (Mesh r) = (text : List ℕ) × IsText l.content name text × MeshRefuses r text
-MeshCause l name o = LoadCause l 2 name o
+MeshCause l name o =
+    LoadCause l 2 name o
+    ⊎ ((r : MeshRefusal) × (text : List ℕ) × (o ≡ Mesh r) × IsText l.content name text × MeshRefuses r text)

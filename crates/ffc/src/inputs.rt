@@ -9,7 +9,7 @@ ghost use Rattle.ffc.specs.Inputs.{loads, IsText, LoadCause, HasForm, FormCause,
 use crate::form_file::read_form;
 use answers::{FormKind, FormRefusal, Outcome};
 use ends::files::{Files, LoadError};
-use mesh_in::{Mesh, read_mesh_of};
+use mesh_in::{MESH_LIMIT, Mesh, read_mesh_of};
 use ratio::Ratio;
 use slices::FORM_LIMIT;
 use spaces::Cell;
@@ -69,7 +69,7 @@ pub fn load_mesh<F: Files>(alloc: Global, files: &mut F, name: &str) -> Result<M
     ensures cause { IfErr result (MeshCause (loads (F.content files.old) (F.faults files.old)
         (F.faults files.new) (F.last_failed files.new)) name.now) }
 {
-    let text = load(alloc, files, name, mesh_in::LIMIT, 2)?;
+    let text = load(alloc, files, name, MESH_LIMIT, 2)?;
     match read_mesh_of(alloc, Cell::Interval, text.as_slice()) {
         Ok(mesh) => Ok(mesh),
         Err(refusal) => Err(Outcome::from(refusal)),

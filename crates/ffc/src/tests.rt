@@ -171,6 +171,14 @@ fn ends_as_the_worked_rows_say(rt: HostRuntime) -> Result<(), Fail> {
     let words = "assemble form a mesh -";
     let table = [
         (words, MASS, TWO, 0, MATRIX, ""),
+        (
+            words,
+            MASS,
+            "mesh 2 interval 2 1\n0\n2\n0 1 7\n",
+            0,
+            MATRIX,
+            "",
+        ),
         ("compile form", MASS, TWO, 0, UNIT, ""),
         ("compile none", MASS, TWO, 8, "", "read fault 1\n"),
         (
@@ -299,6 +307,17 @@ fn a_fault_of_writing_leaves_a_prefix(rt: HostRuntime) -> Result<(), Fail> {
     Ok(())
 }
 
+// What `assemble` writes of the form on the interval from 0 to 2.
+fn assemble(alloc: Global, form: &str) -> Result<Left, AllocError> {
+    let call = Call {
+        words: "assemble form a mesh -",
+        form,
+        mesh: TWO,
+        fail: None,
+    };
+    run(alloc, &call)
+}
+
 fn form_text(alloc: Global, tail: &str) -> Result<String, AllocError> {
     let mut text = String::from_str(alloc, OPENING)?;
     text.push_str(tail)?;
@@ -309,13 +328,7 @@ fn form_text(alloc: Global, tail: &str) -> Result<String, AllocError> {
 fn a_number_is_the_factor(rt: HostRuntime) -> Result<(), Fail> {
     for (tail, out, err) in FACTORS {
         let form = form_text(rt.alloc(), tail)?;
-        let call = Call {
-            words: "assemble form a mesh -",
-            form: form.as_str(),
-            mesh: TWO,
-            fail: None,
-        };
-        let left = run(rt.alloc(), &call)?;
+        let left = assemble(rt.alloc(), form.as_str())?;
         assert_eq!(rt; left.out.bytes(), out.as_bytes());
         assert_eq!(rt; left.err.bytes(), err.as_bytes());
     }
@@ -342,13 +355,7 @@ fn a_form_file_has_a_limit(rt: HostRuntime) -> Result<(), Fail> {
     ];
     for (zeros, out, err) in table {
         let form = padded_form(rt.alloc(), zeros)?;
-        let call = Call {
-            words: "assemble form a mesh -",
-            form: form.as_str(),
-            mesh: TWO,
-            fail: None,
-        };
-        let left = run(rt.alloc(), &call)?;
+        let left = assemble(rt.alloc(), form.as_str())?;
         assert_eq!(rt; left.out.bytes(), out.as_bytes());
         assert_eq!(rt; left.err.bytes(), err.as_bytes());
     }

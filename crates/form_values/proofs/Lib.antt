@@ -20,3 +20,4 @@ pub mod ShareLaws
 pub mod Starts
 pub mod TriplesLaws
 pub mod Vanishing
+pub mod WorkedValue

@@ -1,7 +1,7 @@
 -- A sum over all rows of a value times a function is the sum over the local labels, where no other label has a function
 use Rattle.std.proofs.Common.{◌≡◌, ◌≢◌, ℕ, zero, suc, ◌<◌, ◌⊎◌, inl, inr, Bool, true, false, List, [], ◌∷◌, slice_index_or, if◌then◌else◌, refl, sym, ap, ap₂, ◌∙◌, subst, arith}
 use Rattle.std.specs.declared.cmp.Ordering.{Ordering}
-use Rattle.std.specs.declared.cmp.Ordering.TheVariants.{Less, Equal}
+use Rattle.std.specs.declared.cmp.Ordering.TheVariants.{Less, Equal, Greater}
 use Rattle.std.specs.Ordering.{is_eq, is_lt}
 use Rattle.std.specs.List.{AllByRecursion}
 use Rattle.std.specs.List.Sorted.{IsStrictlySortedBy}
@@ -16,7 +16,7 @@ use Rattle.calculus.specs.Integral.{sum_below}
 use Rattle.calculus.proofs.PolynomialLaws.{constant-zero}
 use Rattle.dofs.specs.Label.{Label}
 use Rattle.dofs.specs.Order.{label_cmp, place}
-use Rattle.dofs.proofs.SetLaws.{Member, is_equal, greater_from_less}
+use Rattle.dofs.proofs.SetLaws.{Member, greater_from_less}
 use Rattle.dofs.proofs.RowLaws.{label_total, label_separates}
 use Rattle.dofs.specs.Basis.{CellOf, basis_value}
 use Rattle.form_values.specs.FormValue.{rows_value}
@@ -65,6 +65,11 @@ rows_value_is (l ∷ ls) [] k i = no_values (l ∷ ls) (λ m. basis_value m k i)
 rows_value_is (l ∷ ls) (x ∷ xs) k i = ap (plus (times (constant x) (basis_value l k i))) (rows_value_is ls xs k i)
 
 -- ---- one label taken out
+is_equal : (o : Ordering) → is_eq o ≡ true → o ≡ Equal
+is_equal Less e = cc
+is_equal Equal e = refl
+is_equal Greater e = cc
+
 abbrev without : Label → (Label → Polynomial) → Label → Polynomial
 without m f l = if is_eq (label_cmp l m) then nil else f l
 

@@ -1,5 +1,6 @@
--- The values of a form on a mesh, one for each pair of global basis functions: sums over the cells of integrals in physical coordinates.
--- They are polynomials on each cell, put together from the functions of labels; no local node, row of a cell or kernel is named
+-- The values of a form on a mesh, one for each pair of global basis functions: sums over the cells of integrals in
+-- physical coordinates. They are polynomials on each cell, put together from the functions of labels; no local node,
+-- row of a cell or kernel is named
 use Rattle.std.specs.Prelude.{◌≡◌, ◌≢◌, ℕ, suc, Bool, ◌&&◌, List, [], ◌∷◌, nat_lt, Option, None, Some, slice_get, if◌then◌else◌}
 use Rattle.std.specs.List.{AllByRecursion}
 use Rattle.algebra.specs.Fraction.{Fraction, zero_fraction, add}

@@ -1,9 +1,10 @@
--- The values of the form `c*u*v*dx` for hat functions on intervals, the continuous functions of degree one: by vertices, without
--- elements, labels or trees. That the values of the form's problem are these is a law
+-- The values of the form `c*u*v*dx` for hat functions on intervals, the continuous functions of degree one: by
+-- vertices, without elements, labels or trees. That the values of the form's problem are these is a law
 --
--- A row or column is the place of a vertex among those that occur in some cell, by rising number. Its hat function is on each cell
--- the local function of that vertex, by Silvester's formula, and 0 on the cells that don't have it. A value is the sum over all cells
--- of the integral of c times the product of the two hat functions, in physical coordinates.
+-- A row or column is the place of a vertex among those that occur in some cell, by rising number. Its hat function is
+-- on each cell the local function of that vertex, by Silvester's formula, and 0 on the cells that don't have it. A
+-- value is the sum over all cells of the integral of c times the product of the two hat functions, in physical
+-- coordinates.
 use Rattle.std.specs.Prelude.{ℕ, ◌==◌, List, [], ◌∷◌, length, map, slice_get, Option, None, Some, if◌then◌else◌}
 use Rattle.algebra.specs.Fraction.{Fraction}
 use Rattle.algebra.specs.Sums.{total}
@@ -38,7 +39,8 @@ hat_density m c row col cell = times (constant c) (times (hat_of_row m col cell)
 
 -- the sum over all cells of the integral
 abbrev pub hat_value_over : MeshData Fraction → Fraction → Option ℕ → Option ℕ → List (List ℕ) → Fraction
-hat_value_over m c row col cells = total (map (λ cell. integral_value (corners_of m cell) (hat_density m c row col cell)) cells)
+hat_value_over m c row col cells =
+    total (map (λ cell. integral_value (corners_of m cell) (hat_density m c row col cell)) cells)
 
 -- the form's value at a row and a column, 0 beyond the last ones
 unfoldable pub hat_value : MeshData Fraction → Fraction → ℕ → ℕ → Fraction

@@ -6,3 +6,4 @@ pub mod Linear
 pub mod Mass
 pub mod Problem
 pub mod Shares
+pub mod Worked

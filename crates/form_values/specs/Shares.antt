@@ -1,5 +1,5 @@
--- What becomes of the cells of a mesh in the form `c*u*v*dx`: the shares of a cell, a cell that is flat, or one that passes, since the difference of
--- its coordinates or a share does not fit
+-- What becomes of the cells of a mesh in the form `c*u*v*dx`: the shares of a cell, a cell that is flat, or one that
+-- passes, since the difference of its coordinates or a share does not fit
 use Rattle.std.specs.Prelude.{◌≡◌, ℕ, ◌<◌, Bool, true, false, List, [], ◌∷◌, map, take, length, slice_index, slice_index_or, IsSome}
 use Rattle.std.specs.List.{flat_map, AllByRecursion}
 use Rattle.algebra.specs.Fraction.{Fraction, zero_fraction}
@@ -33,11 +33,15 @@ IsFine m c cell = has_shares (outcome_on m c cell) ≡ true
 
 -- all cells before this one have their shares, and this is what becomes of it
 abbrev pub BecomesFirst : MeshData Fraction → Fraction → ℕ → Outcome → Type 0
-BecomesFirst m c k outcome = (k < length m.cells) × AllByRecursion (IsFine m c) (take k m.cells) × (outcome_on m c (slice_index_or m.cells k []) ≡ outcome)
+BecomesFirst m c k outcome =
+    (k < length m.cells) × AllByRecursion (IsFine m c) (take k m.cells)
+    × (outcome_on m c (slice_index_or m.cells k []) ≡ outcome)
 
 -- the shares of the cells at their rows and columns, cell by cell
 abbrev pub cell_shares : MeshData Fraction → Fraction → List ℕ → List Entry
-cell_shares m c cell = local_entries (map (row_of m.cells) cell) (map (row_of m.cells) cell) (mass_shares c (end_of m cell 0) (end_of m cell 1))
+cell_shares m c cell =
+    local_entries (map (row_of m.cells) cell) (map (row_of m.cells) cell)
+    (mass_shares c (end_of m cell 0) (end_of m cell 1))
 
 abbrev pub share_entries : MeshData Fraction → Fraction → List Entry
 share_entries m c = flat_map (cell_shares m c) m.cells
@@ -47,7 +51,8 @@ pub record HasMatrix (m : MeshData Fraction) (c : Fraction) : Type 0 where
   pub cells : AllByRecursion (IsFine m c) m.cells
   pub sums : (row col : ℕ) → IsSome (added (values_at (share_entries m c) row col))
 
--- when there is no matrix: for the first cell that has no shares, or else for the first entry whose shares, cells in order, can't be added up
+-- when there is no matrix: for the first cell that has no shares, or else for the first entry whose shares, cells in
+-- order, can't be added up
 abbrev pub Refuses : MeshData Fraction → Fraction → RunRefusal → Type 0
 Refuses m c (refusal.Zero cell at) = BecomesFirst m c cell Flat
 Refuses m c (refusal.CellPassed cell at op left right) = BecomesFirst m c cell Passes

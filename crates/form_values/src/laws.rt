@@ -1,9 +1,10 @@
-//! What the shares of cells and the runs of kernels have to do with the values of a form. Each law is the contract of a function
-//! that does nothing, for provers to call or cite.
+//! What the shares of cells and the runs of kernels have to do with the values of a form. Each law is the contract of
+//! a function that does nothing, for provers to call or cite.
 
-ghost use Rattle.std.specs.Prelude.{◌≡◌, ◌≤◌, ◌^◌, ℕ, List, Some, length, slice_get};
+ghost use Rattle.std.specs.Prelude.{◌≡◌, ◌≤◌, ◌^◌, ℕ, suc, List, Some, length, slice_get};
 ghost use Rattle.std.specs.List.{AllByRecursion};
-ghost use Rattle.algebra.specs.Fraction.{Fraction};
+ghost use Rattle.algebra.specs.Ring.{natural};
+ghost use Rattle.algebra.specs.Fraction.{Fraction, mul, inverse, zero_fraction, fractions as field};
 ghost use Rattle.calculus.specs.Polynomial.{nil, derivative};
 ghost use Rattle.ratio.specs.declared.reduced.Ratio.{Ratio};
 ghost use Rattle.c_unit.specs.declared.unit.CFun.{CFun};
@@ -34,10 +35,12 @@ ghost use Rattle.form_values.specs.HatFunctions.{hat_value};
 ghost use Rattle.form_values.specs.Linear.{HaveArguments, IsMultilinear};
 ghost use Rattle.form_values.specs.Mass.{mass_problem, no_others};
 ghost use Rattle.form_values.specs.Problem.{Problem, IsIn, marker_of, row_count};
+ghost use Rattle.form_values.specs.Worked.{square_problem};
 ghost use Rattle.form_values.specs.Shares.{HasMatrix, Refuses, IsPlanned, IsIntervalMesh};
 
-/// Whatever makes the local tensors of the cells: where each is its cell's shares, their sums by row and column are the values of the
-/// form, and those of one cell are what it adds to them. The form is linear in its arguments: that is a premise.
+/// Whatever makes the local tensors of the cells: where each is its cell's shares, their sums by row and column are
+/// the values of the form, and those of one cell are what it adds to them. The form is linear in its arguments: that
+/// is a premise.
 pub fn triples()
     ensures sums { (p : Problem) (o : Occurring) → Fits p o → IsMultilinear p o
         → (tensor : CellOf → List Fraction) → HaveShares p o tensor
@@ -47,8 +50,8 @@ pub fn triples()
         → (triples : List Entry) → AreSums (cell_entries p tensor k) triples → AreCellTriples p k triples }
 {}
 
-/// A form is linear in its arguments where its density is a sum of monomials, on the cells of each marker others maybe, which have one
-/// test and one trial function if the form has them, and no position if none is said to occur.
+/// A form is linear in its arguments where its density is a sum of monomials, on the cells of each marker others
+/// maybe, which have one test and one trial function if the form has them, and no position if none is said to occur.
 pub fn linearity()
     ensures { (p : Problem) (o : Occurring) (ms : ℕ → List Monomial)
         → ((env : Environment) → HasOnlyUsed env → HasNoOffset env
@@ -59,7 +62,8 @@ pub fn linearity()
 /// On a cell of the mesh, what a form integrates at two local nodes is what it integrates at their rows.
 pub fn local_nodes()
     ensures { (p : Problem) (o : Occurring) → Fits p o → IsMultilinear p o → (k : CellOf) → IsIn k p → IsWhole o k
-        → (a b g h : ℕ) → slice_get (argument_rows p p.test k) a ≡ Some g → slice_get (argument_rows p p.trial k) b ≡ Some h
+        → (a b g h : ℕ) → slice_get (argument_rows p p.test k) a ≡ Some g
+        → slice_get (argument_rows p p.trial k) b ≡ Some h
         → density_on p (marker_of p.mesh k.number) (local (layout_of p o) k.corners (values_on p o.coefficients k) a b)
         ≡ density p.elements p.form (start p k g h) }
 {}
@@ -79,8 +83,8 @@ pub fn rows_of_cells()
         → slice_get (numbering p.mesh s).cells k.number ≡ Some (rows_on p.mesh (Some s) k) }
 {}
 
-/// The layout of a form is lawful where the numbers of its coefficients rise and they have at most 2^24 values on a cell; each cell
-/// has as many values as the layout says.
+/// The layout of a form is lawful where the numbers of its coefficients rise and they have at most 2^24 values on a
+/// cell; each cell has as many values as the layout says.
 pub fn layout()
     ensures lawful { (p : Problem) (o : Occurring) → Fits p o → AreRising 0 (layout_of p o).coefs
         → value_count (layout_of p o).coefs ≤ 2 ^ 24 → IsLawfulOn p.mesh.kind (layout_of p o) }
@@ -88,11 +92,12 @@ pub fn layout()
         → length (values_on p o.coefficients k) ≡ value_count (layout_of p o).coefs }
 {}
 
-/// The form `c*u*v*dx` of linear functions on intervals is a case of any form: it has its elements, is linear in both arguments, and
-/// its values are the sums over the cells of the integrals of c times the product of two hat functions, by vertices. Its rows are the
-/// vertices that occur in some cell.
+/// The form `c*u*v*dx` of linear functions on intervals is a case of any form: it has its elements, is linear in both
+/// arguments, and its values are the sums over the cells of the integrals of c times the product of two hat
+/// functions, by vertices. Its rows are the vertices that occur in some cell.
 pub fn mass_case()
-    ensures fits { (c : Ratio) (m : MeshData Fraction) → m.kind ≡ Interval → IsMesh m → Fits (mass_problem c m) no_others }
+    ensures fits { (c : Ratio) (m : MeshData Fraction) → m.kind ≡ Interval → IsMesh m
+        → Fits (mass_problem c m) no_others }
     ensures multilinear { (c : Ratio) (m : MeshData Fraction) → IsMultilinear (mass_problem c m) no_others }
     ensures values { (c : Ratio) (m : MeshData Fraction) → m.kind ≡ Interval → IsMesh m
         → (row col : ℕ) → hat_value m (fraction_of c) row col ≡ form_value (mass_problem c m) row col }
@@ -100,8 +105,16 @@ pub fn mass_case()
         → row_count (mass_problem c m) (mass_problem c m).test ≡ row_of m.cells (length m.points) }
 {}
 
-/// Where the runs of the form's function go to their ends on all cells and their values can be added up, the sums are the values of the
-/// form `c*u*v*dx` of linear functions on intervals. Then no cell is flat, and neither a cell nor a sum passes.
+/// Worked: on the cells from 0 to 1, with marker 0, and from 3 to 1, with marker 1, the form `x[0]*x[0]*dx(1)` has
+/// the value 26/3, and no other row.
+pub fn worked_value()
+    ensures value { form_value square_problem 0 0 ≡ mul (natural field 26) (inverse (natural field 3)) }
+    ensures only { (row : ℕ) → form_value square_problem (suc row) 0 ≡ zero_fraction }
+{}
+
+/// Where the runs of the form's function go to their ends on all cells and their values can be added up, the sums are
+/// the values of the form `c*u*v*dx` of linear functions on intervals. Then no cell is flat, and neither a cell nor a
+/// sum passes.
 pub fn matrix()
     ensures values { (f : CFun) (c : Ratio) → IsPlanned f (fraction_of c) → (m : MeshData Ratio) → IsIntervalMesh m
         → AllByRecursion (IsGood f (fractions m)) m.cells → (triples : List Entry)
@@ -111,9 +124,11 @@ pub fn matrix()
         → AreSums (run_entries f (fractions m)) triples → HasMatrix (fractions m) c }
 {}
 
-/// Where the assembly refuses, there is no matrix of the form, for the same cell or entry; and where there is one, memory alone may be wanting.
+/// Where the assembly refuses, there is no matrix of the form, for the same cell or entry; and where there is one,
+/// memory alone may be wanting.
 pub fn refusals()
     ensures cause { (f : CFun) (c : Fraction) → IsPlanned f c → (m : MeshData Ratio) → IsIntervalMesh m →
         (e : RunRefusal) → runs.Refuses f (fractions m) e → Refuses (fractions m) c e }
-    ensures apart { (m : MeshData Fraction) (c : Fraction) (e : RunRefusal) → HasMatrix m c → Refuses m c e → e ≡ Memory }
+    ensures apart { (m : MeshData Fraction) (c : Fraction) (e : RunRefusal) → HasMatrix m c
+        → Refuses m c e → e ≡ Memory }
 {}

@@ -233,7 +233,7 @@ cell_is h points cells cell s true true size is_below is_distinct e = (line_of_c
 cell_is h points cells cell s true false size is_below is_distinct e = absurd cc
 cell_is h points cells cell s false distinct size is_below is_distinct e = absurd cc
 
-size_of_row : {A : Type 0} (R : List ℕ → A → Type 0) (ws : List (List ℕ)) (xs : List A) → AllZip R ws xs → length xs ≡ length ws
+pub size_of_row : {A : Type 0} (R : List ℕ → A → Type 0) (ws : List (List ℕ)) (xs : List A) → AllZip R ws xs → length xs ≡ length ws
 size_of_row R [] [] each = refl
 size_of_row R [] (x ∷ xs) each = absurd each
 size_of_row R (w ∷ ws) [] each = absurd each

@@ -5,6 +5,7 @@ pub mod HeaderLaws
 pub mod HeaderLineLaws
 pub mod HeaderLemmas
 pub mod LineLemmas
+pub mod MarkerLaws
 pub mod NumberLemmas
 pub mod NumberTextLemmas
 pub mod ReadingLemmas

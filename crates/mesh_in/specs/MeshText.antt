@@ -9,7 +9,7 @@ use Rattle.spaces.specs.declared.cell.Cell.TheVariants.{Interval, Triangle, Tetr
 use Rattle.mesh_in.specs.declared.header.Header.{Header}
 use Rattle.mesh_in.specs.declared.header.Version.{Version}
 use Rattle.mesh_in.specs.declared.header.Version.TheVariants.{Plain, Marked}
-use Rattle.mesh_in.specs.declared.read.TheConstants.{LIMIT}
+use Rattle.mesh_in.specs.declared.read.TheConstants.{MESH_LIMIT}
 use Rattle.mesh_in.specs.declared.refusal.MeshKind.{MeshKind}
 use Rattle.mesh_in.specs.declared.refusal.MeshKind.TheVariants.{TooLong, Lex, Syntax, Count, VertexRange, RepeatedVertex}
 use Rattle.mesh_in.specs.declared.refusal.MeshRefusal.{MeshRefusal}
@@ -138,7 +138,7 @@ reading number said [] = complete number said
 reading number said (line ∷ more) = at_line (number + 1) (after_line said line) (λ next. reading (number + 1) next more)
 
 abbrev pub longest : ℕ
-longest = LIMIT
+longest = MESH_LIMIT
 
 -- the mesh of a text, or the refusal
 unfoldable pub meaning : List ℕ → Result (MeshData Fraction) MeshRefusal

@@ -5,6 +5,7 @@
 #![tactic(auto)]
 
 mod header;
+pub mod laws;
 mod lines;
 mod mesh;
 mod read;
@@ -13,7 +14,7 @@ mod rows;
 mod words;
 
 pub use mesh::{CellView, Mesh};
-pub use read::{LIMIT, read_mesh, read_mesh_of};
+pub use read::{MESH_LIMIT, read_mesh, read_mesh_of};
 pub use refusal::{MeshKind, MeshRefusal};
 
 #[cfg(test)]

@@ -12,7 +12,7 @@ ghost use Rattle.mesh_in.specs.MeshData.{MeshData, IsMesh, fractions, rows, most
 ghost use Rattle.mesh_in.specs.MeshGrammar.{IsMeshText, IsRefused};
 ghost use Rattle.mesh_in.specs.MeshText.{longest, nothing, begun, header_of, after_header, reading, meaning};
 ghost use Rattle.mesh_in.specs.Refusal.{out_of_memory};
-ghost use Rattle.mesh_in.specs.Reader.{remaining, points_of, Fails, Gives, IsRefusedBy};
+ghost use Rattle.mesh_in.specs.Reader.{remaining, row_number, points_of, Fails, Gives, IsRefusedBy};
 
 use crate::header::{Header, read_header};
 use crate::lines::{Line, Lines};
@@ -24,7 +24,7 @@ use spaces::Cell;
 use std::alloc::Global;
 
 /// How many bytes the text of a mesh may have.
-pub const LIMIT: u32 = 67_108_864;
+pub const MESH_LIMIT: u32 = 67_108_864;
 
 /// The most vertices, and the most cells.
 const MOST: u32 = 1_000_000;
@@ -41,6 +41,18 @@ fn first_row(line: Line<'_>) -> Result<Header, MeshRefusal>
         return Err(line.refused(MeshKind::Count));
     }
     Ok(header)
+}
+
+// The header, and the number of its line.
+fn read_first(lines: &mut Lines<'_>) -> Result<(Header, u32), MeshRefusal>
+    ensures few { IfOk result (λ r. (r.0.vertices ≤ most) × (r.0.cells ≤ most)) }
+    ensures ok { IfOk result (λ r. remaining lines.old nothing ≡ remaining lines.new (begun r.0 [] [])) }
+    ensures number { IfOk result (λ r. r.1 ≡ row_number lines.old) }
+    ensures err { IfErr result (λ e. Fails e (remaining lines.old nothing)) }
+{
+    let line = lines.row()?;
+    let header = first_row(line)?;
+    Ok((header, line.number))
 }
 
 // The coordinates of all points. The vectors grow as the lines come, whatever the header promises.
@@ -85,12 +97,11 @@ fn read_lines(alloc: Global, text: &[u8]) -> Result<(Mesh, u32), MeshRefusal>
     ensures err { IfErr result (λ e. Fails e (reading 0 nothing (lines text.now))) }
 {
     let mut lines = Lines::new(text);
-    let line = lines.row()?;
-    let header = first_row(line)?;
+    let (header, line) = read_first(&mut lines)?;
     let coordinates = read_points(alloc, &mut lines, header)?;
     let numbers = read_cells(alloc, &mut lines, header)?;
     lines.end()?;
-    Ok((Mesh::new(header, coordinates, numbers), line.number))
+    Ok((Mesh::new(header, coordinates, numbers), line))
 }
 
 fn read(alloc: Global, text: &[u8]) -> Result<(Mesh, u32), MeshRefusal>
@@ -98,7 +109,7 @@ fn read(alloc: Global, text: &[u8]) -> Result<(Mesh, u32), MeshRefusal>
     ensures line { IfOk result (λ r. r.1 ≡ header_line text.now) }
     ensures err { IfErr result (λ e. Fails e (meaning text.now)) }
 {
-    if text.len() > LIMIT as usize {
+    if text.len() > MESH_LIMIT as usize {
         return Err(MeshRefusal {
             kind: MeshKind::TooLong,
             line: 0,

@@ -8,7 +8,7 @@ mod coordinates;
 mod fault;
 mod integral;
 mod local;
-mod number;
+pub mod number;
 mod point;
 mod poly;
 mod simplex;

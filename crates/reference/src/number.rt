@@ -1,4 +1,4 @@
-// Steps on numbers, with an error in place of `None`.
+//! Steps on numbers: `Range` exactly where the step of `Ratio` has no answer.
 
 ghost use Rattle.std.specs.Prelude.{◌≡◌, ◌+◌, IfOk};
 ghost use Rattle.algebra.specs.Ring.{natural};
@@ -27,7 +27,7 @@ pub fn product(a: Ratio, b: Ratio) -> Result<Ratio, Fault>
     a.mul(b).ok_or(Fault::Range)
 }
 
-// 0 has none.
+/// 0 has none.
 pub fn reciprocal(a: Ratio) -> Result<Ratio, Fault>
     ensures { IfOk result (λ r. fraction_of r ≡ inverse (fraction_of a)) }
 {
@@ -40,7 +40,14 @@ pub fn whole(n: u32) -> Result<Ratio, Fault>
     Ratio::new(n as i128, 1).ok_or(Fault::Range)
 }
 
-// The sum of two powers.
+/// One part in n; 0 has none.
+pub fn one_in(n: u32) -> Result<Ratio, Fault>
+    ensures { IfOk result (λ r. fraction_of r ≡ inverse (natural fractions n)) }
+{
+    reciprocal(whole(n)?)
+}
+
+/// The sum of two powers.
 pub fn power_sum(a: u32, b: u32) -> Result<u32, Fault>
     ensures { IfOk result (λ n. n ≡ a + b) }
 {

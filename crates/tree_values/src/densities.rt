@@ -89,11 +89,8 @@ fn integrand(alloc: Global, scene: &Scene, tree: &Tree) -> Result<Poly, Fault>
     ensures { IfOk result (λ p. value_of p ≡ integrand_in scene.now tree.now) }
 {
     let here = Scene {
-        elements: scene.elements,
-        functions: scene.functions,
-        marker: scene.marker,
-        changes: scene.changes,
         names: &[],
+        ..*scene
     };
     value(alloc, &here, tree, &[])
 }
@@ -105,11 +102,8 @@ fn changed(alloc: Global, scene: &Scene, form: &FormTree, change: Change) -> Res
 {
     let changes = with_change(alloc, scene.changes, change)?;
     let here = Scene {
-        elements: scene.elements,
-        functions: scene.functions,
-        marker: scene.marker,
         changes: changes.as_slice(),
-        names: scene.names,
+        ..*scene
     };
     density(alloc, &here, form)
 }

@@ -10,7 +10,6 @@ mod densities;
 mod environment;
 mod leaf;
 mod meanings;
-mod number;
 mod operands;
 mod parts;
 mod place;

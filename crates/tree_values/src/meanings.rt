@@ -72,11 +72,8 @@ fn changed(alloc: Global, scene: &Scene, e: &Plain, change: Change) -> Result<Po
 {
     let changes = with_change(alloc, scene.changes, change)?;
     let here = Scene {
-        elements: scene.elements,
-        functions: scene.functions,
-        marker: scene.marker,
         changes: changes.as_slice(),
-        names: scene.names,
+        ..*scene
     };
     meaning(alloc, &here, e)
 }
@@ -88,11 +85,8 @@ fn named(alloc: Global, scene: &Scene, e: &Plain, index: u16, k: u8) -> Result<P
 {
     let names = with_bound(alloc, scene.names, index, k)?;
     let here = Scene {
-        elements: scene.elements,
-        functions: scene.functions,
-        marker: scene.marker,
-        changes: scene.changes,
         names: names.as_slice(),
+        ..*scene
     };
     meaning(alloc, &here, e)
 }

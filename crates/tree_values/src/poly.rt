@@ -248,8 +248,25 @@ mod tests {
         Ok(sum)
     }
 
-    // Of (1 + x + t)^n: the coefficients add up to 3^n, those of the derivative in x to n 3^(n-1), those of the power 0 of t to 2^n and those of the
-    // power 1 to n 2^(n-1).
+    fn adds_up_to(found: Result<Poly, Fault>, n: i128) -> bool {
+        let Ok(p) = found else {
+            return false;
+        };
+        let Ok(sum) = total(&p) else {
+            return false;
+        };
+        Ratio::new(n, 1) == Some(sum)
+    }
+
+    // (1 + x + t)^n
+    fn power(alloc: Global, n: u8) -> Result<Poly, Fault> {
+        let x = Poly::coordinate(alloc, 0)?;
+        let x_and_t = x.sum(alloc, &Poly::parameter(alloc, 0)?)?;
+        Poly::one(alloc)?.sum(alloc, &x_and_t)?.power(alloc, n)
+    }
+
+    // The coefficients add up to 3^n, those of the derivative in x to n 3^(n-1), those of the power 0 of t to 2^n and those of the power 1 to
+    // n 2^(n-1).
     #[test]
     fn powers_of_a_sum(rt: HostRuntime) -> Result<(), Fault> {
         let alloc = rt.alloc();
@@ -259,21 +276,12 @@ mod tests {
             (2, 9, 6, 4, 4),
             (4, 81, 108, 16, 32),
         ] {
-            let x = Poly::coordinate(alloc, 0)?;
-            let t = Poly::parameter(alloc, 0)?;
-            let p = Poly::one(alloc)?
-                .sum(alloc, &x.sum(alloc, &t)?)?
-                .power(alloc, n)?;
-            let whole = total(&p)?;
-            assert!(rt; Ratio::new(all, 1) == Some(whole));
-            let derived = total(&p.along(alloc, 0)?)?;
-            assert!(rt; Ratio::new(slope, 1) == Some(derived));
-            let part = total(&p.linear_part(alloc, 0)?)?;
-            assert!(rt; Ratio::new(linear, 1) == Some(part));
-            let rest = total(&p.constant_part(alloc, 0)?)?;
-            assert!(rt; Ratio::new(constant, 1) == Some(rest));
-            let nothing = total(&p.difference(alloc, &p.copy(alloc)?)?)?;
-            assert!(rt; nothing.is_zero());
+            let p = power(alloc, n)?;
+            assert!(rt; adds_up_to(p.copy(alloc), all));
+            assert!(rt; adds_up_to(p.along(alloc, 0), slope));
+            assert!(rt; adds_up_to(p.linear_part(alloc, 0), linear));
+            assert!(rt; adds_up_to(p.constant_part(alloc, 0), constant));
+            assert!(rt; adds_up_to(p.difference(alloc, &p), 0));
         }
         Ok(())
     }

@@ -7,9 +7,8 @@ ghost use Rattle.ufl_meaning.specs.Environment.{parameter, parameter_number};
 ghost use Rattle.ufl_meaning.specs.Operators.{along};
 ghost use Rattle.tree_values.specs.TermValue.{term_of, powers_of, part_value};
 
-use crate::number;
 use ratio::Ratio;
-use reference::Fault;
+use reference::{Fault, number};
 
 /// The fraction `coefficient` times x, y, z and the parameters 0, 1 and 2 to these powers.
 #[derive(Clone, Copy)]

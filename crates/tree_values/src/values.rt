@@ -12,12 +12,12 @@ use crate::component::{
 };
 use crate::environment::{Change, offset, used, with_change};
 use crate::leaf::{function, identity, piece, unit};
-use crate::number::one_in;
 use crate::operands::{combined, first_size, last_size, other_axes, wanted};
 use crate::poly::Poly;
 use crate::scene::{Scene, assignments, number, numbers, with_all_bound};
 use crate::summed::summed;
 use reference::Fault;
+use reference::number::one_in;
 use sqlite_items::Items;
 use std::alloc::Global;
 use ufl_tree::{Node, Op1, Tree};
@@ -34,11 +34,8 @@ pub fn value(alloc: Global, scene: &Scene, tree: &Tree, at: &[u8]) -> Result<Pol
     let mut total = Poly::zero(alloc);
     for names in all {
         let here = Scene {
-            elements: scene.elements,
-            functions: scene.functions,
-            marker: scene.marker,
-            changes: scene.changes,
             names: names.as_slice(),
+            ..*scene
         };
         total = total.sum(alloc, &unsummed(alloc, &here, tree, at)?)?;
     }
@@ -105,11 +102,8 @@ fn tensor(alloc: Global, scene: &Scene, a: &Tree, by: &[u16], at: &[u8]) -> Resu
 {
     let names = with_all_bound(alloc, scene.names, by, at)?;
     let here = Scene {
-        elements: scene.elements,
-        functions: scene.functions,
-        marker: scene.marker,
-        changes: scene.changes,
         names: names.as_slice(),
+        ..*scene
     };
     value(alloc, &here, a, &[])
 }
@@ -126,11 +120,8 @@ fn diff(alloc: Global, scene: &Scene, a: &Tree, label: u32, at: &[u8]) -> Result
     };
     let changes = with_change(alloc, scene.changes, raised)?;
     let here = Scene {
-        elements: scene.elements,
-        functions: scene.functions,
-        marker: scene.marker,
         changes: changes.as_slice(),
-        names: scene.names,
+        ..*scene
     };
     value(alloc, &here, a, first_part(shape, at))?.linear_part(alloc, used(scene.changes))
 }

@@ -3,11 +3,12 @@
 ghost use Rattle.std.specs.Prelude.{◌+◌, ◌<◌, ◌≤◌, length, IfOk};
 
 use crate::environment::Given;
-use crate::number::product;
 use crate::poly::Poly;
+use crate::scene::Scene;
 use crate::term::Term;
 use ratio::Ratio;
 use reference::Fault;
+use reference::number::product;
 use spaces::{Cell, Element, Family};
 use sqlite_items::Items;
 use std::alloc::Global;
@@ -250,6 +251,17 @@ pub fn elements(alloc: Global) -> Result<Items<Element>, Fault> {
         all.push(element(alloc, number).ok_or(Fault::Shape)?)?;
     }
     Ok(all)
+}
+
+/// These elements and functions, on a cell with the marker 4.
+pub fn scene<'a>(elements: &'a [Element], functions: &'a [Given]) -> Scene<'a> {
+    Scene {
+        elements,
+        functions,
+        marker: 4,
+        changes: &[],
+        names: &[],
+    }
 }
 
 /// The table with one more element.

@@ -2,8 +2,9 @@
 
 use crate::densities::density;
 use crate::poly::Poly;
-use crate::scene::Scene;
-use crate::worked::{LINE, Name, SQUARE, TEST, TRIAL, elements, function, functions, gives, table};
+use crate::worked::{
+    LINE, Name, SQUARE, TEST, TRIAL, elements, function, functions, gives, scene, table,
+};
 use crate::worked_values::{Step, built};
 use ratio::Ratio;
 use reference::Fault;
@@ -98,13 +99,7 @@ fn form(
 fn found(alloc: Global, form: &FormTree) -> Result<Poly, Fault> {
     let elements = elements(alloc)?;
     let functions = functions(alloc)?;
-    let scene = Scene {
-        elements: elements.as_slice(),
-        functions: functions.as_slice(),
-        marker: 4,
-        changes: &[],
-        names: &[],
-    };
+    let scene = scene(elements.as_slice(), functions.as_slice());
     density(alloc, &scene, form)
 }
 

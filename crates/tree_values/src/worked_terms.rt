@@ -2,8 +2,7 @@
 
 use crate::meanings::meaning;
 use crate::poly::Poly;
-use crate::scene::Scene;
-use crate::worked::{FLOW, Name, PLACE, elements, function, functions, gives, whole};
+use crate::worked::{FLOW, Name, PLACE, elements, function, functions, gives, scene, whole};
 use reference::Fault;
 use sqlite_items::{Boxed, Items};
 use std::alloc::Global;
@@ -21,7 +20,7 @@ enum Step {
     Over(u8),
     Dx(Ix),
     Delta(Ix, Ix),
-    /// The item of this number of the three on top.
+    /// The item of this number of the three components of w.
     Item(Ix),
     /// A component of w under label 1.
     Mark(Ix),
@@ -35,12 +34,10 @@ use Step::{Delta, Dx, Item, Mark, Negative, Number, Of, Over, Product, Raise, Su
 
 const I: Ix = Ix::Named(7);
 
-/// The components of w = (x, y, z).
+/// Components of w = (x, y, z).
 const X: Step = Of(PLACE, Ix::Fixed(0));
 
 const Y: Step = Of(PLACE, Ix::Fixed(1));
-
-const Z: Step = Of(PLACE, Ix::Fixed(2));
 
 /// w[i]
 const W_I: Step = Of(PLACE, I);
@@ -77,12 +74,11 @@ fn product(alloc: Global, pile: &mut Items<Plain>) -> Result<Plain, Fault> {
     Ok(Plain::Prod(top_boxed(alloc, pile)?, b))
 }
 
-fn item(alloc: Global, at: Ix, pile: &mut Items<Plain>) -> Result<Plain, Fault> {
-    let (third, second, first) = (top(pile)?, top(pile)?, top(pile)?);
+fn item(alloc: Global, at: Ix) -> Result<Plain, Fault> {
     let mut items = Items::new(alloc);
-    items.push(first)?;
-    items.push(second)?;
-    items.push(third)?;
+    for k in 0..3 {
+        items.push(of(alloc, PLACE, Ix::Fixed(k))?)?;
+    }
     Ok(Plain::Pick { at, items })
 }
 
@@ -135,7 +131,7 @@ fn made(alloc: Global, step: Step, pile: &mut Items<Plain>) -> Result<Plain, Fau
         Step::Over(dim) => over(alloc, dim, pile),
         Step::Dx(i) => dx(alloc, i, pile),
         Step::Delta(i, j) => Ok(Plain::Delta(i, j)),
-        Step::Item(i) => item(alloc, i, pile),
+        Step::Item(i) => item(alloc, i),
         Step::Mark(i) => mark(alloc, i),
         Step::Raise(label, k) => raise(alloc, label, k, pile),
         Step::Turn(along) => turn(alloc, along, pile),
@@ -155,13 +151,7 @@ fn built(alloc: Global, steps: &[Step]) -> Result<Plain, Fault> {
 fn found(alloc: Global, steps: &[Step]) -> Result<Poly, Fault> {
     let elements = elements(alloc)?;
     let functions = functions(alloc)?;
-    let scene = Scene {
-        elements: elements.as_slice(),
-        functions: functions.as_slice(),
-        marker: 4,
-        changes: &[],
-        names: &[],
-    };
+    let scene = scene(elements.as_slice(), functions.as_slice());
     meaning(alloc, &scene, &built(alloc, steps)?)
 }
 
@@ -183,10 +173,10 @@ const TREES: [Row; 15] = [
     (&[Delta(Ix::Fixed(0), Ix::Fixed(1))], 0),
     // delta(i, 2) w[i] over i
     (&[Delta(I, Ix::Fixed(2)), W_I, Product, Over(3)], 5),
-    (&[X, Y, Z, Item(Ix::Fixed(1))], 3),
-    (&[X, Y, Z, Item(Ix::Fixed(3))], 0),
+    (&[Item(Ix::Fixed(1))], 3),
+    (&[Item(Ix::Fixed(3))], 0),
     // item i times d[i] over i, where d = (y z, x, 2): 2 * 15 + 3 * 2 + 5 * 2
-    (&[X, Y, Z, Item(I), Of(FLOW, I), Product, Over(3)], 46),
+    (&[Item(I), Of(FLOW, I), Product, Over(3)], 46),
     (&[M], 2),
 ];
 

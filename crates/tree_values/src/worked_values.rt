@@ -1,11 +1,10 @@
 //! Values of small expressions, against numbers worked out by hand.
 
 use crate::poly::Poly;
-use crate::scene::Scene;
 use crate::values::value;
 use crate::worked::{
     A, B, F, Name, PAIR, SPACE_A, SPACE_F, SPACE_U, SPACE_V, U, V, elements, function, functions,
-    gives, table, whole,
+    gives, scene, table, whole,
 };
 use reference::Fault;
 use sqlite_items::Items;
@@ -19,6 +18,8 @@ pub enum Step {
     Number(i128),
     Identity(u8),
     Of(Name),
+    /// A function under a label.
+    Under(Name, u32),
     /// A sub-element of `PAIR`.
     Part(u8),
     One(Op1),
@@ -34,7 +35,7 @@ pub enum Step {
     Beside,
 }
 
-use Step::{Along, At, Beside, By, Cube, Identity, Label, Number, Of, One, Over, Part, Two};
+use Step::{Along, At, Beside, By, Cube, Identity, Label, Number, Of, One, Over, Part, Two, Under};
 
 const I: Ix = Ix::Named(7);
 
@@ -46,6 +47,10 @@ fn top(pile: &mut Items<Expr>) -> Result<Expr, TypeRefusal> {
 
 fn of(alloc: Global, name: Name, table: &Elements) -> Result<Expr, TypeRefusal> {
     Expr::function(alloc, function(name).ok_or(TypeRefusal::Kind)?, table)
+}
+
+fn under(alloc: Global, name: Name, label: u32, table: &Elements) -> Result<Expr, TypeRefusal> {
+    Expr::variable(alloc, label, of(alloc, name, table)?)
 }
 
 fn part(alloc: Global, which: u8, table: &Elements) -> Result<Expr, TypeRefusal> {
@@ -93,6 +98,7 @@ fn made(
         Step::Number(n) => number(alloc, n),
         Step::Identity(n) => Expr::identity(alloc, n),
         Step::Of(name) => of(alloc, name, table),
+        Step::Under(name, label) => under(alloc, name, label, table),
         Step::Part(which) => part(alloc, which, table),
         Step::One(op) => Expr::one(alloc, op, top(pile)?),
         Step::Two(op) => two(alloc, op, pile),
@@ -119,13 +125,7 @@ pub fn built(alloc: Global, steps: &[Step], table: &Elements) -> Result<Expr, Ty
 fn found(alloc: Global, tree: &Tree, at: &[u8]) -> Result<Poly, Fault> {
     let elements = elements(alloc)?;
     let functions = functions(alloc)?;
-    let scene = Scene {
-        elements: elements.as_slice(),
-        functions: functions.as_slice(),
-        marker: 4,
-        changes: &[],
-        names: &[],
-    };
+    let scene = scene(elements.as_slice(), functions.as_slice());
     value(alloc, &scene, tree, at)
 }
 
@@ -288,121 +288,36 @@ const OTHERS: [Row; 16] = [
     (&[Identity(2)], &[0, 1], 0, 1),
 ];
 
+const TIMES: Step = Two(Op2::Product);
+
+const INNER: Step = Two(Op2::Inner);
+
+/// variable(f), variable(u) and variable(a)
+const W: Step = Under(F, 1);
+
+const W_U: Step = Under(U, 1);
+
+const W_A: Step = Under(A, 1);
+
 /// Variables, and derivatives by them.
 const VARIABLES: [Row; 8] = [
-    (&[Of(U), Label(1)], &[0], 18, 1),
-    (&[Of(U), Label(1)], &[1], 4, 1),
-    // diff(inner(w, w), w), where w = variable(a): 2 a
+    (&[W_U], &[0], 18, 1),
+    (&[W_U], &[1], 4, 1),
+    // inner(w, w) by w: 2 a
+    (&[W_A, W_A, INNER, W_A, By], &[0, 1], 12, 1),
+    (&[W_A, W_A, INNER, W_A, By], &[1, 0], 54, 1),
+    // q w, where q is w w under another label: 3 w^2 by w, and w by q
+    (&[W, W, TIMES, Label(2), W, TIMES, W, By], &[], 3888, 1),
     (
-        &[
-            Of(A),
-            Label(1),
-            Of(A),
-            Label(1),
-            Two(Op2::Inner),
-            Of(A),
-            Label(1),
-            By,
-        ],
-        &[0, 1],
-        12,
-        1,
-    ),
-    (
-        &[
-            Of(A),
-            Label(1),
-            Of(A),
-            Label(1),
-            Two(Op2::Inner),
-            Of(A),
-            Label(1),
-            By,
-        ],
-        &[1, 0],
-        54,
-        1,
-    ),
-    // of q w, where w = variable(f) and q = variable(w w): 3 w^2 by w, and w by q
-    (
-        &[
-            Of(F),
-            Label(1),
-            Of(F),
-            Label(1),
-            Two(Op2::Product),
-            Label(2),
-            Of(F),
-            Label(1),
-            Two(Op2::Product),
-            Of(F),
-            Label(1),
-            By,
-        ],
-        &[],
-        3888,
-        1,
-    ),
-    (
-        &[
-            Of(F),
-            Label(1),
-            Of(F),
-            Label(1),
-            Two(Op2::Product),
-            Label(2),
-            Of(F),
-            Label(1),
-            Two(Op2::Product),
-            Of(F),
-            Label(1),
-            Of(F),
-            Label(1),
-            Two(Op2::Product),
-            Label(2),
-            By,
-        ],
+        &[W, W, TIMES, Label(2), W, TIMES, W, W, TIMES, Label(2), By],
         &[],
         36,
         1,
     ),
     // f outside the label stays
-    (
-        &[
-            Of(F),
-            Label(1),
-            Of(F),
-            Two(Op2::Product),
-            Of(F),
-            Label(1),
-            By,
-        ],
-        &[],
-        36,
-        1,
-    ),
-    // 6 w, of w w w by w twice
-    (
-        &[
-            Of(F),
-            Label(1),
-            Of(F),
-            Label(1),
-            Two(Op2::Product),
-            Of(F),
-            Label(1),
-            Two(Op2::Product),
-            Of(F),
-            Label(1),
-            By,
-            Of(F),
-            Label(1),
-            By,
-        ],
-        &[],
-        216,
-        1,
-    ),
+    (&[W, Of(F), TIMES, W, By], &[], 36, 1),
+    // w w w by w, twice: 6 w
+    (&[W, W, TIMES, W, TIMES, W, By, W, By], &[], 216, 1),
 ];
 
 #[test]

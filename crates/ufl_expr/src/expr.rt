@@ -28,11 +28,11 @@ use std::alloc::{AllocError, Global};
 use std::marker::Model;
 use ufl_tree::{Free, Function, Ix, Node, Op1, Op2, Role, Tree};
 
-/// Most nodes of an expression.
-const MOST_NODES: u32 = 10_000;
+/// Most nodes of an expression or a form.
+pub const MOST_NODES: u32 = 10_000;
 
-/// Greatest height of an expression; a leaf is 1 high.
-const MOST_HEIGHT: u32 = 128;
+/// Greatest height of an expression or a form; a leaf is 1 high.
+pub const MOST_HEIGHT: u32 = 128;
 
 /// A typed tree whose nodes all obey the typing table, with at most 10,000 of them and a height of at most 128.
 #[derive(Drop)]

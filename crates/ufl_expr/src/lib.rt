@@ -19,5 +19,5 @@ mod signature;
 mod tests;
 
 pub use elements::Elements;
-pub use expr::Expr;
+pub use expr::{Expr, MOST_HEIGHT, MOST_NODES};
 pub use refusal::TypeRefusal;

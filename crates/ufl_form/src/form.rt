@@ -20,14 +20,8 @@ use spaces::Cell;
 use sqlite_items::Boxed;
 use std::alloc::{AllocError, Global};
 use std::marker::Model;
-use ufl_expr::{Elements, Expr, TypeRefusal};
+use ufl_expr::{Elements, Expr, MOST_HEIGHT, MOST_NODES, TypeRefusal};
 use ufl_tree::{Function, On, Role};
-
-/// Most nodes of a form.
-const MOST_NODES: u32 = 10_000;
-
-/// Greatest height of a form; a leaf of an integrand is 1 high.
-const MOST_HEIGHT: u32 = 128;
 
 /// A form whose tree obeys the typing table, with at most 10,000 nodes and a height of at most 128.
 #[derive(Drop)]
@@ -195,35 +189,23 @@ impl Form {
     pub fn left(alloc: Global, a: Form) -> Result<Form, TypeRefusal>
         ensures { Gives result (formed (FormTree.Left a)) }
     {
-        let Form {
-            tree,
-            kind,
-            patterns,
-            nodes,
-            height,
-        } = a;
-        let tree = FormTree::Left(Boxed::new(alloc, tree)?);
-        finish(tree, kind, patterns.linear_pairs(), nodes + 1, height + 1)
+        let tree = FormTree::Left(Boxed::new(alloc, a.tree)?);
+        let patterns = a.patterns.linear_pairs();
+        finish(tree, a.kind, patterns, a.nodes + 1, a.height + 1)
     }
 
     /// The negative of the part without the trial function.
     pub fn right(alloc: Global, a: Form) -> Result<Form, TypeRefusal>
         ensures { Gives result (formed (FormTree.Right a)) }
     {
-        let Form {
-            tree,
-            kind,
-            patterns,
-            nodes,
-            height,
-        } = a;
-        let tree = FormTree::Right(Boxed::new(alloc, tree)?);
+        let tree = FormTree::Right(Boxed::new(alloc, a.tree)?);
+        let patterns = a.patterns.constant_pairs();
         finish(
             tree,
-            right_kind(kind),
-            patterns.constant_pairs(),
-            nodes + 1,
-            height + 1,
+            right_kind(a.kind),
+            patterns,
+            a.nodes + 1,
+            a.height + 1,
         )
     }
 
@@ -231,20 +213,14 @@ impl Form {
     pub fn adjoint(alloc: Global, a: Form) -> Result<Form, TypeRefusal>
         ensures { Gives result (formed (FormTree.Adjoint a)) }
     {
-        let Form {
-            tree,
-            kind,
-            patterns,
-            nodes,
-            height,
-        } = a;
-        let tree = FormTree::Adjoint(Boxed::new(alloc, tree)?);
+        let tree = FormTree::Adjoint(Boxed::new(alloc, a.tree)?);
+        let patterns = a.patterns.turned();
         finish(
             tree,
-            adjoint_kind(kind),
-            patterns.turned(),
-            nodes + 1,
-            height + 1,
+            adjoint_kind(a.kind),
+            patterns,
+            a.nodes + 1,
+            a.height + 1,
         )
     }
 

@@ -1,6 +1,7 @@
-use Rattle.std.proofs.Common.{◌≤◌, ◌≡◌, ◌∙◌, ℕ, List, ap, arith, subst, refl, length}
+use Rattle.std.proofs.Common.{◌≤◌, ◌≡◌, ◌∙◌, ℕ, List, ap, inr, arith, subst, refl, length}
 use Rattle.algebra.specs.Fraction.{Fraction}
 use Rattle.ratio.specs.Value.{fraction_of}
+use Rattle.answers.specs.declared.outcome.FormKind.TheVariants.{TooLong, NotYet}
 use Rattle.slices.specs.declared.form_toks.TheConstants.{FORM_LIMIT}
 use Rattle.ffc.specs.FormFile.{IsForm, IsNoForm, IsOff}
 use Rattle.ffc.proofs.FactorLaws.{form_is_small}
@@ -10,7 +11,7 @@ use Rattle.ffc.proofs.inputs.load_form.Goals as goal
 pub returns-then-len-clause-cause : goal.returns-then-len-clause-cause
 returns-then-len-clause-cause g c =
     let t = c.in_ok-text.ensures.ok in
-    (t.0, t.1, (too_long t.0 c.in_ok-text.text.items FORM_LIMIT t.2 (omega (arith, c.len.ensures, c.in_ok-text.text.ok.0)), refl))
+    inr (record { kind = TooLong; line = 0 }, t.0, refl, t.1, (too_long t.0 c.in_ok-text.text.items FORM_LIMIT t.2 (omega (arith, c.len.ensures, c.in_ok-text.text.ok.0)), refl))
 
 pub returns-in-Ok-clause-form : goal.returns-in-Ok-clause-form
 returns-in-Ok-clause-form g c =
@@ -34,4 +35,4 @@ returns-clause-cause g c =
     let P : List ℕ → Type 0 = λ x. (length x ≤ FORM_LIMIT) × IsNoForm x × IsOff c.in-Err.line x in
     let Q : List ℕ → Type 0 = λ x. IsNoForm x × IsOff c.in-Err.line x in
     let q = subst Q c.as_slice.ensures.value (c.in-Err.ensures.none, c.in-Err.ensures.line) in
-    (t.0, t.1, subst P p (short, q.0, q.1))
+    inr (record { kind = NotYet; line = c.in-Err.line }, t.0, refl, t.1, subst P p (short, q.0, q.1))

@@ -1,4 +1,4 @@
-use Rattle.std.proofs.Common.{◌≡◌, ◌∙◌, ap, sym}
+use Rattle.std.proofs.Common.{◌∙◌, ap, sym}
 use Rattle.mesh_in.specs.MeshText.{meaning}
 use Rattle.ffc.specs.Inputs.{loads}
 use Rattle.ffc.proofs.LoadLaws.{same_meaning, mesh_fits}

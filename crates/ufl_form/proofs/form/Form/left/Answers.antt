@@ -6,5 +6,5 @@ pub finish-requires : goal.finish-requires
 finish-requires c =
     let a = c.a.inside in
     let p = c.in_ok-new.field-0 in
-    described_kept _ _ _ _ _ _ _ _ refl c.linear_pairs.ensures refl
+    described_kept _ _ _ _ _ _ _ _ refl c.linear_pairs-patterns.ensures refl
     (described_left p a.kind a.patterns a.nodes a.height (described_part p a.tree a.kind a.patterns a.nodes a.height c.in_ok-new.ensures c.a.invariant.described))
