@@ -198,8 +198,8 @@ fn built(alloc: Global, body: Body, step: Step) -> Result<Form, TypeRefusal> {
     stepped(alloc, integral(alloc, body)?, step)
 }
 
-/// Whether terms occur with no, one and more trial functions, for each of no, one and more test functions; or a refusal.
-type Wanted = Result<[[bool; 3]; 3], TypeRefusal>;
+/// A pattern set, or a refusal.
+type Wanted = Result<PatternSet, TypeRefusal>;
 
 const KIND: Wanted = Err(TypeRefusal::Kind);
 
@@ -209,27 +209,72 @@ const FREE_INDEX: Wanted = Err(TypeRefusal::FreeIndex);
 
 const NODES: Wanted = Err(TypeRefusal::Nodes);
 
-const NONE: [bool; 3] = [false, false, false];
+const NONE: Numbers = Numbers {
+    zero: false,
+    one: false,
+    more: false,
+};
 
-const ZERO: [bool; 3] = [true, false, false];
+const ZERO: Numbers = Numbers {
+    zero: true,
+    one: false,
+    more: false,
+};
 
-const ONE: [bool; 3] = [false, true, false];
+const ONE: Numbers = Numbers {
+    zero: false,
+    one: true,
+    more: false,
+};
 
-const ZERO_OR_ONE: [bool; 3] = [true, true, false];
+const ZERO_OR_ONE: Numbers = Numbers {
+    zero: true,
+    one: true,
+    more: false,
+};
 
-const FUNCTIONAL: Wanted = Ok([ZERO, NONE, NONE]);
+/// The pairs with this number of trial functions and no, one or more test functions.
+const FUNCTIONAL: Wanted = Ok(PatternSet {
+    zero: ZERO,
+    one: NONE,
+    more: NONE,
+});
 
-const LINEAR: Wanted = Ok([NONE, ZERO, NONE]);
+const LINEAR: Wanted = Ok(PatternSet {
+    zero: NONE,
+    one: ZERO,
+    more: NONE,
+});
 
-const IN_TRIAL: Wanted = Ok([ONE, NONE, NONE]);
+const IN_TRIAL: Wanted = Ok(PatternSet {
+    zero: ONE,
+    one: NONE,
+    more: NONE,
+});
 
-const BILINEAR: Wanted = Ok([NONE, ONE, NONE]);
+const BILINEAR: Wanted = Ok(PatternSet {
+    zero: NONE,
+    one: ONE,
+    more: NONE,
+});
 
-const AFFINE: Wanted = Ok([NONE, ZERO_OR_ONE, NONE]);
+const AFFINE: Wanted = Ok(PatternSet {
+    zero: NONE,
+    one: ZERO_OR_ONE,
+    more: NONE,
+});
 
-const SQUARE: Wanted = Ok([NONE, NONE, ZERO]);
+const SQUARE: Wanted = Ok(PatternSet {
+    zero: NONE,
+    one: NONE,
+    more: ZERO,
+});
 
-const NO_PAIR: Wanted = Ok([NONE, NONE, NONE]);
+const NO_PAIR: Wanted = Ok(PatternSet {
+    zero: NONE,
+    one: NONE,
+    more: NONE,
+});
 
 /// As high as a form may be once it is an integrand.
 const HIGHEST: Body = Body::Deep(V, 126);
@@ -314,20 +359,10 @@ const DERIVATIVES: [(Body, Step, Wanted); 13] = [
     (HIGHEST, Step::Derivative(W, W), NODES),
 ];
 
-fn are(numbers: Numbers, wanted: [bool; 3]) -> bool {
-    let [zero, one, more] = wanted;
-    numbers.zero == zero && numbers.one == one && numbers.more == more
-}
-
-fn is(set: PatternSet, wanted: [[bool; 3]; 3]) -> bool {
-    let [zero, one, more] = wanted;
-    are(set.zero, zero) && are(set.one, one) && are(set.more, more)
-}
-
 /// The pattern set or the refusal is the wanted one.
 fn gives(found: Result<Form, TypeRefusal>, want: Wanted) -> bool {
     match (found, want) {
-        (Ok(form), Ok(set)) => is(patterns(&form), set),
+        (Ok(form), Ok(set)) => patterns(&form) == set,
         (Err(refusal), Err(wanted)) => refusal == wanted,
         _ => false,
     }
