@@ -1,6 +1,6 @@
 -- What the functions are run on, gathered
 use Rattle.std.proofs.Common.{◌≡◌, ℕ, ◌+◌, ◌<◌, ◌≤◌, List, [], ◌∷◌, ◌++◌, Some, refl, sym, ◌∙◌, ap, ap₂, arith, length, get_or, drop, take, map, add-one, drop-cons, append_assoc, length-append, ◌-◌}
-use Rattle.std.proofs.lemmas.List.{drop_all, get_or-map, append-nil, map-append, take_all, length-drop}
+use Rattle.std.proofs.lemmas.List.{drop_all, get_or-map, append-nil, map-append, take_all, length-drop, length-map}
 use Rattle.std.proofs.Math.Seq.{take-append_seam}
 use borrow.Rule.Slice.PartMut.{post_of}
 use Rattle.std.proofs.lemmas.Option.{get_or_from_slice_get, slice_get_within}
@@ -10,6 +10,18 @@ use Rattle.ratio.specs.Value.{fraction_of}
 use Rattle.ratio.specs.declared.reduced.Ratio.{Ratio}
 use Rattle.c_unit.specs.Meaning.{fractions_of}
 use Rattle.mesh_in.specs.MeshData.{MeshData, fractions}
+use Rattle.std.proofs.Common.{◌*◌, below_more, subst, true, false, if◌then◌else◌, ◌==◌}
+use Rattle.std.specs.List.{AllByRecursion}
+use Rattle.std.proofs.lemmas.List.{drop-append-le, take-append-le}
+use Rattle.std.proofs.Math.Seq.{drop-append_seam}
+use Rattle.c_unit.specs.declared.unit.CFun.{CFun}
+use Rattle.c_unit.specs.Meaning.{ran}
+use Rattle.c_run.specs.Answer.{Answer, answer}
+use Rattle.assembly.specs.Assembly.{Runs, IsFew, IsGoodOn, StopsFirst, CellRefused, RunRefused, answer_on, cell_count, marked_fun, fun_on, marker_of, coefficient_values}
+use Rattle.assembly.specs.declared.funs.Funs.{Funs}
+use Rattle.assembly.specs.declared.funs.MarkedFun.{MarkedFun}
+use Rattle.assembly.specs.declared.run_refusal.RunRefusal.{RunRefusal}
+use Rattle.assembly.specs.declared.run_refusal.RunRefusal.TheVariants.{TooManyEntries, Zero, CellPassed, SumPassed, Memory}
 use Rattle.assembly.specs.Run.{coordinates_of}
 
 drop_here : {A : Type 0} (xs : List A) (i : ℕ) (d : A) → i < length xs → drop i xs ≡ get_or xs i d ∷ drop (i + 1) xs
@@ -59,14 +71,67 @@ pieces_end f xs i w whole h q = sym (append-nil (fractions_of w)) ∙ ap (λ us.
 
 -- ---- what was written behind the values that were there
 
-pub tail_written : (items ds old zs a : List Ratio) (n start : ℕ) → ds ≡ items → items ≡ take n old ++ zs → start ≡ length old → start ≤ n → length items ≡ n → start + length a ≡ n
+pub tail_written : (items ds old zs a : List Ratio) (n room start : ℕ) → ds ≡ items → items ≡ take room old ++ zs → start ≡ length old → start ≤ room → length items ≡ n → start + length a ≡ n
     → take n ((take start ds ++ (a ++ post_of start (length ds - start) ds)) ++ drop (length (take start ds ++ (a ++ post_of start (length ds - start) ds))) items) ≡ old ++ a
-tail_written items ds old zs a n start e f g h l m =
+tail_written items ds old zs a n room start e f g h l m =
     let front : take start ds ≡ old
-    = ap (take start) (e ∙ f ∙ ap (λ (t : List Ratio). t ++ zs) (take_all n old (omega (arith, g, h)))) ∙ ap (λ k. take k (old ++ zs)) g ∙ take-append_seam old zs in
+    = ap (take start) (e ∙ f ∙ ap (λ (t : List Ratio). t ++ zs) (take_all room old (omega (arith, g, h)))) ∙ ap (λ k. take k (old ++ zs)) g ∙ take-append_seam old zs in
     let back : post_of start (length ds - start) ds ≡ [] = drop_all (length ds - start) (drop start ds) (omega (arith, length-drop start ds)) in
     let whole : take start ds ++ (a ++ post_of start (length ds - start) ds) ≡ old ++ a = ap₂ ◌++◌ front (ap (λ (t : List Ratio). a ++ t) back ∙ append-nil a) in
     ap (λ (w : List Ratio). take n (w ++ drop (length w) items)) whole
     ∙ ap (λ (t : List Ratio). take n ((old ++ a) ++ t)) (drop_all (length (old ++ a)) items (omega (arith, length-append old a, g, l, m)))
     ∙ ap (take n) (append-nil (old ++ a))
     ∙ take_all n (old ++ a) (omega (arith, length-append old a, g, m))
+
+pub refused_as : (a b : Answer) (k : ℕ) (e : RunRefusal) → a ≡ b → CellRefused a k e → CellRefused b k e
+refused_as a b k e f r = subst (λ (x : Answer). CellRefused x k e) f r
+
+-- ---- one more cell
+
+pub tensors_more : (size k : ℕ) (tensor : ℕ → List Fraction) (old new : List Fraction) → new ≡ old ++ tensor k → length old ≡ k * size → length (tensor k) ≡ size
+    → ((j : ℕ) → j < k → take size (drop (j * size) old) ≡ tensor j) → (j : ℕ) → j < k + 1 → take size (drop (j * size) new) ≡ tensor j
+tensors_more size k tensor old new e f g h = below_more (λ j. take size (drop (j * size) new) ≡ tensor j) k
+    (λ j l. ap (λ xs. take size (drop (j * size) xs)) e ∙ earlier size j k old (tensor k) f l ∙ h j l)
+    (ap (λ xs. take size (drop (k * size) xs)) e ∙ ap (λ n. take size (drop n (old ++ tensor k))) (sym f) ∙ ap (take size) (drop-append_seam old (tensor k)) ∙ take_all size (tensor k) (omega (arith, g)))
+  where
+    fits : (size j k : ℕ) → j < k → j * size + size ≤ k * size
+    fits size j k l =
+        let r = k - (j + 1) in
+        let e : k ≡ j + 1 + r = omega arith in
+        let f : (j + 1 + r) * size ≡ j * size + size + r * size = omega arith in
+        omega (arith, ap (λ n. n * size) e, f)
+
+    earlier : (size j k : ℕ) (old more : List Fraction) → length old ≡ k * size → j < k → take size (drop (j * size) (old ++ more)) ≡ take size (drop (j * size) old)
+    earlier size j k old more f l =
+        let m = fits size j k l in
+        ap (take size) (drop-append-le (j * size) old more (omega (arith, m, f)))
+        ∙ take-append-le size (drop (j * size) old) more (omega (arith, m, f, length-drop (j * size) old))
+
+-- the values of one more cell stand behind those of the cells before it
+pub run_more : (size k : ℕ) (tensor : ℕ → List Fraction) (old new : List Ratio) → fractions_of new ≡ fractions_of old ++ tensor k → length old ≡ k * size → length new ≡ length old + size
+    → ((j : ℕ) → j < k → take size (drop (j * size) (fractions_of old)) ≡ tensor j) → (j : ℕ) → j < k + 1 → take size (drop (j * size) (fractions_of new)) ≡ tensor j
+run_more size k tensor old new e f g =
+    tensors_more size k tensor (fractions_of old) (fractions_of new) e (length-map old fraction_of ∙ f)
+    (omega (arith, g, length-map old fraction_of, length-map new fraction_of, ap length e, length-append (fractions_of old) (tensor k)))
+
+-- what is gathered is what the function of the cell is run on
+pub answer_is : (s : Runs) (k marker : ℕ) (f : Funs) (x w : List Ratio) → f ≡ s.funs → slice_get s.mesh.markers k ≡ Some marker
+    → fractions_of x ≡ coordinates_of (fractions s.mesh) (get_or s.mesh.cells k []) → fractions_of w ≡ flat_map (coefficient_values k) s.coefs
+    → answer (ran (fun_on f marker) (fractions_of x) (fractions_of w)) ≡ answer_on s k
+unfolding answer_on
+answer_is s k marker f x w e m g h =
+    ap (λ (t : Funs). answer (ran (fun_on t marker) (fractions_of x) (fractions_of w))) e
+    ∙ ap (λ n. answer (ran (fun_on s.funs n) (fractions_of x) (fractions_of w))) (sym (get_or_from_slice_get s.mesh.markers k marker 0 m))
+    ∙ ap₂ (λ xs ws. answer (ran (fun_on s.funs (marker_of s.mesh k)) xs ws)) g h
+
+pub refused_first : (s : Runs) (k : ℕ) (e : RunRefusal) → IsFew s → k < cell_count s → ((j : ℕ) → j < k → IsGoodOn s j) → CellRefused (answer_on s k) k e → RunRefused s e
+refused_first s k TooManyEntries few h good r = absurd r
+refused_first s k (Zero cell at) few h good r = subst (λ (n : ℕ). StopsFirst s n (Zero cell at)) (sym r.0) (record { few = few; cell = h; earlier = good; stops = r.1 })
+refused_first s k (CellPassed cell at op l p) few h good r = subst (λ (n : ℕ). StopsFirst s n (CellPassed cell at op l p)) (sym r.0) (record { few = few; cell = h; earlier = good; stops = r.1 })
+refused_first s k (SumPassed row col) few h good r = absurd r
+refused_first s k Memory few h good r = tt
+
+-- each function of a form has as many entries
+pub same_size : (size : ℕ) (ms : List MarkedFun) (k : ℕ) (plain : CFun) → plain.a ≡ size → AllByRecursion (λ (m : MarkedFun). m.fun.a ≡ size) ms → (marked_fun ms k plain).a ≡ size
+same_size size [] k plain e a = e
+same_size size (m ∷ ms) k plain e a = elim (m.marker == k) as (λ b. (if b then m.fun else marked_fun ms k plain).a ≡ size) [ true ↦ a.0 | false ↦ same_size size ms k plain e a.1 ]

@@ -8,4 +8,7 @@ pub mod RowSumsLaws
 pub mod PlacedLaws
 pub mod StoredLaws
 pub mod GatherLaws
+pub mod MachineLaws
 pub mod WholeLaws
+pub mod LentLaws
+pub mod AssembledLaws

@@ -18,7 +18,7 @@ use Rattle.assembly.specs.Kept.{resumed}
 use Rattle.assembly.specs.Local.{row_entries, local_entries}
 use Rattle.assembly.specs.Assembly.{argument_rows, row_count, entries_from, cell_entries, IsMapOf}
 use Rattle.assembly.specs.RowSums.{Kept, AddsInRow, AreListed}
-use Rattle.assembly.specs.Stored.{of_row, cell_places, places_in, place_entries, AreSummed}
+use Rattle.assembly.specs.Stored.{AreAllRows, of_row, cell_places, places_in, place_entries, AreSummed}
 use Rattle.assembly.proofs.RowSumsLaws.{then_in_row, nothing_in_row}
 
 pub adds_as : (row : ℕ) (cs ds : List ℕ) (xs ys : List Fraction) (old new : Kept) → cs ≡ ds → ys ≡ xs → AddsInRow row (row_entries row ds ys) old new → AddsInRow row (row_entries row cs xs) old new
@@ -145,6 +145,23 @@ in_row_is (Some n) cols tensor cells height width row m w h =
     cells_in_row (Some n) cols tensor width row 0 cells n.cells m.0 (λ j a b. ap (λ i. get_or n.cells i []) (sym (less_zero j)))
     (λ j a b. width_at cells width cols j w (omega arith))
 
+-- ---- rows that are none
+
+no_first : (row k n : ℕ) → 1 ≤ row → places_from row k (one_each n) ≡ []
+no_first row k zero h = refl
+no_first row k (suc n) h = let t : (0 == row) ≡ false = grind (arith, nat_tests) in rw t (no_first row (suc k) n h)
+
+pub none_of_row : (rows cols : Option Numbering) (tensor : ℕ → List Fraction) (cells height width row : ℕ) → IsMapOf cells height rows → IsMapOf cells width cols → AreAllRows rows → row_count rows ≤ row
+    → of_row row (entries_from rows cols tensor 0 cells) ≡ []
+none_of_row None cols tensor cells height width row m w all h =
+    cells_in_row None cols tensor width row 0 cells (one_each cells) (length-one_each cells) (λ j a b. one_each_at cells j (omega arith) ∙ ap (λ i. get_or (one_each cells) i []) (sym (less_zero j)))
+    (λ j a b. width_at cells width cols j w (omega arith))
+    ∙ ap (flat_map (place_entries cols tensor width row)) (no_first row 0 cells h)
+none_of_row (Some n) cols tensor cells height width row m w all h =
+    cells_in_row (Some n) cols tensor width row 0 cells n.cells m.0 (λ j a b. ap (λ i. get_or n.cells i []) (sym (less_zero j)))
+    (λ j a b. width_at cells width cols j w (omega arith))
+    ∙ ap (flat_map (place_entries cols tensor width row)) (all row h)
+
 -- ---- where the places of a row are
 
 abbrev pub IsWithin : ℕ → ℕ → RowPlace → Type 0
@@ -253,3 +270,9 @@ clear_listed sums ts e none = subst (AreListed sums) (sym e) (record { distinct 
 
 pub all_cells : (row : ℕ) (f : RowPlace → List Entry) (cells : ℕ) (a new : Kept) → AddsInRow row (flat_map f (cell_places 0 (cells - 0))) a new → AddsInRow row (flat_map f (cell_places 0 cells)) a new
 all_cells row f cells a new h = subst (λ (n : ℕ). AddsInRow row (flat_map f (cell_places 0 n)) a new) (less_zero cells) h
+
+-- tensors that are equal on these cells give the same entries
+pub entries_same : (rows cols : Option Numbering) (f g : ℕ → List Fraction) (k n : ℕ) → ((j : ℕ) → k ≤ j → j < k + n → f j ≡ g j) → entries_from rows cols f k n ≡ entries_from rows cols g k n
+entries_same rows cols f g k zero h = refl
+entries_same rows cols f g k (suc n) h =
+    ap₂ ◌++◌ (ap (local_entries (argument_rows rows k) (argument_rows cols k)) (h k (omega arith) (omega arith))) (entries_same rows cols f g (suc k) n (λ j a b. h j (omega arith) (omega arith)))

@@ -1,13 +1,15 @@
 -- From the sums of the rows to those of the whole matrix
-use Rattle.std.proofs.Common.{◌≡◌, ◌≢◌, ℕ, ◌+◌, ◌<◌, ◌≤◌, ◌==◌, ◌⊎◌, Bool, true, false, List, [], ◌∷◌, ◌++◌, Some, if◌then◌else◌, refl, sym, ◌∙◌, ap, arith, subst, inl, inr, ⊎_elim}
+use Rattle.std.proofs.Common.{◌≡◌, ◌≢◌, ℕ, ◌+◌, ◌<◌, ◌≤◌, ◌==◌, ◌⊎◌, Bool, true, false, List, [], ◌∷◌, ◌++◌, Option, Some, if◌then◌else◌, refl, sym, ◌∙◌, ap, arith, subst, inl, inr, ⊎_elim}
 use Rattle.std.proofs.lemmas.Bool.{cases_eq, cases_lt}
 use Rattle.std.proofs.lemmas.Bool.Decides.{nat_tests}
 use Rattle.std.specs.Prelude.{IsSome}
 use Rattle.std.specs.List.{AllByRecursion}
 use Rattle.algebra.specs.Fraction.{Fraction, zero_fraction}
 use Rattle.assembly.specs.Sums.{Entry, is_at, values_at, added, entry_at, IsBefore, AreOrdered, AreSums, PassesFirst}
-use Rattle.assembly.specs.Stored.{of_row}
-use Rattle.assembly.proofs.StoredLaws.{all_both}
+use Rattle.dofs.specs.Rows.{Numbering}
+use Rattle.assembly.specs.Assembly.{row_count, entries_from, IsMapOf}
+use Rattle.assembly.specs.Stored.{AreAllRows, of_row}
+use Rattle.assembly.proofs.StoredLaws.{all_both, none_of_row}
 
 -- the sums of the rows below n
 pub record AreSumsBelow (values : List Entry) (n : ℕ) (sums : List Entry) : Type 0 where
@@ -109,3 +111,10 @@ passes_whole values n col ts s p = record {
       (subst (λ xs. IsSome (added xs)) (own_values n c values) (p.earlier n c (inr (refl, h.1)))))
       b;
 }
+
+-- no value is of a row behind the last
+pub none_beyond : (rows cols : Option Numbering) (tensor : ℕ → List Fraction) (cells height width : ℕ) → IsMapOf cells height rows → IsMapOf cells width cols → AreAllRows rows
+    → (row col : ℕ) → row_count rows ≤ row → values_at (entries_from rows cols tensor 0 cells) row col ≡ []
+none_beyond rows cols tensor cells height width m w all row col h =
+    sym (own_values row col (entries_from rows cols tensor 0 cells))
+    ∙ ap (λ es. values_at es row col) (none_of_row rows cols tensor cells height width row m w all h)

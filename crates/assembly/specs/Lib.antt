@@ -6,3 +6,6 @@ pub mod Run
 pub mod Assembly
 pub mod RowSums
 pub mod Stored
+pub mod LentRows
+pub mod Lent
+pub mod Machines

@@ -1,5 +1,5 @@
 -- The local tensors of all cells as one list of values, and its rows
-use Rattle.std.specs.Prelude.{◌≡◌, ◌≢◌, ℕ, zero, suc, ◌*◌, ◌==◌, List, [], ◌∷◌, length, take, drop, Option, None, Some}
+use Rattle.std.specs.Prelude.{◌≡◌, ◌≢◌, ℕ, zero, suc, ◌*◌, ◌≤◌, ◌==◌, List, [], ◌∷◌, length, take, drop, Option, None, Some}
 use Rattle.std.specs.List.{filter}
 use Rattle.std.specs.Option.{option_copied}
 use Rattle.algebra.specs.Fraction.{Fraction}
@@ -60,3 +60,8 @@ stored_row s row p = place_entries (cols_of s) (tensor_at s) s.width row p
 pub record AreSummed (row : ℕ) (values : List Entry) (sums : Kept) : Type 0 where
   pub own : (r c : ℕ) → r ≢ row → values_at values r c ≡ []
   pub totals : (c : ℕ) → resumed (sum_in sums c) [] ≡ added (values_at values row c)
+
+-- no local node has a row behind the last
+abbrev pub AreAllRows : Option Numbering → Type 0
+AreAllRows None = Unit {0}
+AreAllRows (Some n) = (row : ℕ) → length n.labels ≤ row → row_places row n.cells ≡ []

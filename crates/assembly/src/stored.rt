@@ -1,14 +1,23 @@
 // The local tensors of all cells, at the rows and columns of the cells.
 
-ghost use Rattle.std.specs.Prelude.{◌≡◌, ℕ, ◌*◌, ◌<◌, length, take, drop};
+ghost use Rattle.std.specs.Prelude.{◌≡◌, ℕ, ◌*◌, ◌<◌, length, take, drop, IfOk, IfErr, OnOk};
 ghost use Rattle.c_unit.specs.Meaning.{fractions_of};
+ghost use Rattle.std.specs.Option.{option_copied};
 ghost use Rattle.assembly.specs.RowSums.{AddsInRow, AreListed, HasRoom, IsClear};
-ghost use Rattle.assembly.specs.Assembly.{row_count};
-ghost use Rattle.assembly.specs.Stored.{IsStored, column_count, rows_of, tensor_at, stored_entries, of_row, stored_row};
+ghost use Rattle.assembly.specs.Assembly.{Fits, IsFew, AreGood, RunRefused, row_count, width_of, assembly_of, runs_of, run_entries};
+ghost use Rattle.assembly.specs.Stored.{IsStored, column_count, rows_of, cols_of, tensor_at, stored_entries, of_row, stored_row};
 
+use crate::coef_data::CoefData;
+use crate::funs::Funs;
 use crate::row_sums::RowSums;
+use crate::run_refusal::RunRefusal;
+use crate::runs::run_cells;
 use dofs::{DofMap, RowPlace};
+use mesh_in::Mesh;
+use monos::Layout;
 use ratio::Ratio;
+use spaces::Parts;
+use std::alloc::Global;
 
 /// The local tensors of all cells, and the rows and columns of their entries.
 #[derive(Drop)]
@@ -85,4 +94,52 @@ impl<'a> Stored<'a> {
             }
         }
     }
+}
+
+const MOST_ENTRIES: u64 = 1 << 24;
+
+/// How many local rows an argument has: one where the form doesn't have it.
+fn width(parts: &Parts) -> u32
+    ensures { result ≡ width_of parts.now }
+{
+    if parts.items.as_slice().is_empty() {
+        1
+    } else {
+        parts.local
+    }
+}
+
+/// Runs the functions of a form on all cells, and keeps their values with the rows and columns of their entries.
+pub fn store<'a>(
+    alloc: Global,
+    f: &Funs,
+    l: &Layout,
+    m: &Mesh,
+    rows: Option<&'a DofMap>,
+    cols: Option<&'a DofMap>,
+    coefs: &[CoefData],
+) -> Result<Stored<'a>, RunRefusal>
+    requires { Fits l.now (assembly_of f.now m.now (option_copied rows) (option_copied cols) coefs.now) }
+    ensures stored { IfOk result IsStored }
+    ensures maps { IfOk result (λ s. (rows_of s ≡ option_copied rows.entry) × (cols_of s ≡ option_copied cols.entry)) }
+    ensures entries { IfOk result (λ s. stored_entries s
+        ≡ run_entries (assembly_of f.now m.now (option_copied rows.entry) (option_copied cols.entry) coefs.now)) }
+    ensures few { OnOk result (IsFew (runs_of f.now m.now coefs.now)) }
+    ensures good { OnOk result (AreGood (runs_of f.now m.now coefs.now)) }
+    ensures refusal { IfErr result (RunRefused (runs_of f.now m.now coefs.now)) }
+{
+    let cells = m.cells();
+    let size = f.plain.a;
+    if cells as u64 * size as u64 > MOST_ENTRIES {
+        return Err(RunRefusal::TooManyEntries);
+    }
+    Ok(Stored {
+        rows,
+        cols,
+        cells,
+        height: width(&l.rows),
+        width: width(&l.cols),
+        size,
+        values: run_cells(alloc, f, m, coefs)?,
+    })
 }
