@@ -1,5 +1,5 @@
 -- Values that are added one after the other
-use Rattle.std.proofs.Common.{◌≡◌, ℕ, zero, suc, ◌==◌, ◌&&◌, Bool, true, false, List, [], ◌∷◌, ◌++◌, Option, Some, None, if◌then◌else◌, refl, sym, ◌∙◌, ap, append_assoc, arith, map, take, drop, length, get_or, ◌<◌, ◌≤◌, ◌+◌, ◌*◌, ◌-◌, add-one, drop-cons, subst}
+use Rattle.std.proofs.Common.{◌≡◌, ℕ, ◌==◌, ◌&&◌, Bool, true, false, List, [], ◌∷◌, ◌++◌, Option, Some, None, if◌then◌else◌, refl, sym, ◌∙◌, ap, append_assoc, arith, map, take, drop, length, get_or, ◌<◌, ◌≤◌, ◌+◌, ◌*◌, ◌-◌, add-one, drop-cons, subst}
 use Rattle.std.proofs.lemmas.Bool.Decides.{nat_tests}
 use Rattle.algebra.specs.Fraction.{Fraction}
 use Rattle.assembly.specs.Sums.{Entry, values_at}
@@ -23,7 +23,7 @@ resumed_plus : (s : Option (Option Fraction)) (x : Fraction) (xs : List Fraction
 resumed_plus None x xs = refl
 resumed_plus (Some s) x xs = refl
 
-one_step : (here : Bool) (s s' : Option (Option Fraction)) (x : Fraction) (xs : List Fraction) → s' ≡ (if here then Some (plus s x) else s) → resumed s' xs ≡ resumed s (if here then x ∷ xs else xs)
+pub one_step : (here : Bool) (s s' : Option (Option Fraction)) (x : Fraction) (xs : List Fraction) → s' ≡ (if here then Some (plus s x) else s) → resumed s' xs ≡ resumed s (if here then x ∷ xs else xs)
 one_step true s s' x xs e = ap (λ t. resumed t xs) e ∙ resumed_plus s x xs
 one_step false s s' x xs e = ap (λ t. resumed t xs) e
 
@@ -42,7 +42,7 @@ one_added a b row col x h = λ r c later.
     one_step ((row == r) && (col == c)) (kept_at a r c) (kept_at b r c) x (values_at later r c)
     (h r c ∙ kept_here a row col r c ((row == r) && (col == c)) x refl)
 
-entries_here : (row : ℕ) (cols : List ℕ) (values : List Ratio) (i : ℕ) (v : Ratio) → i < length cols → i < length values → v ≡ get_or values i v
+pub entries_here : (row : ℕ) (cols : List ℕ) (values : List Ratio) (i : ℕ) (v : Ratio) → i < length cols → i < length values → v ≡ get_or values i v
     → row_entries row (drop i cols) (map fraction_of (drop i values))
     ≡ record { row = row; col = get_or cols i 0; value = fraction_of v } ∷ row_entries row (drop (i + 1) cols) (map fraction_of (drop (i + 1) values))
 entries_here row cols values i v p q e =

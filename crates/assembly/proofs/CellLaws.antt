@@ -1,9 +1,9 @@
 -- What a cell adds to the matrix
-use Rattle.std.proofs.Common.{◌≡◌, ℕ, ◌<◌, ◌+◌, List, [], ◌∷◌, ◌++◌, Option, Some, length, get_or, map, refl, sym, ◌∙◌, ap, ap₂, subst, arith, take, zero, suc, true}
+use Rattle.std.proofs.Common.{◌≡◌, ℕ, ◌<◌, ◌+◌, List, [], ◌∷◌, ◌++◌, Some, length, get_or, map, refl, sym, ◌∙◌, ap, ap₂, subst, arith, take, zero, suc, true}
 use Rattle.std.specs.List.{slice_get, AllByRecursion}
 use Rattle.std.proofs.lemmas.List.{get_or-map, take_more}
 use Rattle.std.proofs.lemmas.Option.{get_or_from_slice_get, slice_get_within}
-use Rattle.algebra.specs.Fraction.{Fraction, zero_fraction}
+use Rattle.algebra.specs.Fraction.{Fraction}
 use Rattle.ratio.specs.Value.{fraction_of}
 use Rattle.ratio.specs.declared.reduced.Ratio.{Ratio}
 use Rattle.mesh_in.specs.MeshData.{MeshData, are_below, fractions}

@@ -4,3 +4,11 @@ pub mod RowsLaws
 pub mod CellLaws
 pub mod SumsLaws
 pub mod MatrixLaws
+pub mod RowSumsLaws
+pub mod PlacedLaws
+pub mod StoredLaws
+pub mod GatherLaws
+pub mod MachineLaws
+pub mod WholeLaws
+pub mod LentLaws
+pub mod AssembledLaws

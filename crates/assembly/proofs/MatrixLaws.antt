@@ -1,11 +1,11 @@
 -- From the sums of all cells to the answer
-use Rattle.std.proofs.Common.{◌≡◌, ℕ, List, [], ◌∷◌, ◌++◌, None, refl, ap, subst, sym, ◌∙◌}
+use Rattle.std.proofs.Common.{◌≡◌, ℕ, List, [], ◌∷◌, ◌++◌, None, refl, ap, ◌∙◌}
 use Rattle.std.specs.List.{AllByRecursion}
 use Rattle.algebra.specs.Fraction.{Fraction}
 use Rattle.std.specs.BTreeMap.{IsOrdered}
 use Rattle.mesh_in.specs.MeshData.{MeshData}
 use Rattle.assembly.specs.Sums.{Entry, values_at, added}
-use Rattle.assembly.specs.Kept.{place, place_cmp, kept_at, resumed, first_passed, SumRefused}
+use Rattle.assembly.specs.Kept.{place, place_cmp, kept_at, resumed, SumRefused}
 use Rattle.assembly.specs.Local.{Adds}
 use Rattle.c_unit.specs.declared.unit.CFun.{CFun}
 use Rattle.assembly.specs.Run.{IsGood, run_entries, Refuses}

@@ -1,5 +1,5 @@
 -- Which vertices occur, and how they are numbered
-use Rattle.std.proofs.Common.{◌≡◌, ◌≢◌, ℕ, suc, ◌+◌, ◌<◌, ◌≤◌, ◌==◌, ◌||◌, ◌⊎◌, Bool, true, false, List, [], ◌∷◌, ◌++◌, Option, Some, length, get_or, set, take, drop, nat_lt, refl, sym, ◌∙◌, ap, ap₂, arith, add-one, drop-cons, length-append, get_or-set_same, get_or-set_other, ⊎_elim, below_more, if◌then◌else◌}
+use Rattle.std.proofs.Common.{◌≡◌, ◌≢◌, ℕ, suc, ◌+◌, ◌<◌, ◌≤◌, ◌==◌, ◌||◌, Bool, true, false, List, [], ◌∷◌, ◌++◌, Some, length, get_or, set, take, drop, nat_lt, refl, sym, ◌∙◌, ap, arith, add-one, drop-cons, length-append, get_or-set_same, get_or-set_other, ⊎_elim, below_more, if◌then◌else◌}
 use Rattle.std.proofs.Math.ListN.{get_or-append}
 use Rattle.std.proofs.Math.Seq.{get_or-append_seam, take-append_seam}
 use Rattle.std.proofs.lemmas.Bool.{ltb-true, cases_eq}
@@ -7,7 +7,7 @@ use Rattle.std.proofs.lemmas.Bool.Decides.{nat_tests}
 use Rattle.std.proofs.lemmas.List.Folds.{list_all_at, list_any_more}
 use Rattle.std.proofs.lemmas.List.{drop_all, take_all}
 use Rattle.std.proofs.lemmas.Option.{get_or_from_slice_get}
-use Rattle.std.specs.List.{list_all, list_any, slice_get}
+use Rattle.std.specs.List.{list_all, slice_get}
 use Rattle.mesh_in.specs.MeshData.{are_below}
 use Rattle.assembly.specs.Rows.{has_vertex, occurs, rows_below, row_of}
 

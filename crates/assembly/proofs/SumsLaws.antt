@@ -7,7 +7,7 @@ use Rattle.std.specs.Map.{lookup, keys_of}
 use Rattle.std.specs.Ordering.{nat_cmp, ordering_then}
 use Rattle.std.specs.declared.cmp.Ordering.{Ordering}
 use Rattle.std.specs.declared.cmp.Ordering.TheVariants.{Less, Equal, Greater}
-use Rattle.std.specs.BTreeMap.{is_at, get, IsOrdered}
+use Rattle.std.specs.BTreeMap.{is_at}
 use Rattle.std.proofs.lemmas.Bool.Decides.{nat_tests}
 use mathlib.Core.Quot.{ind, sound, Quot-set}
 use mathlib.Core.HLevel.{Π_prop}
@@ -16,10 +16,9 @@ use Rattle.std.specs.Prelude.{pos}
 use Rattle.algebra.specs.Fraction.{Pair, Same, Fraction, zero_fraction, is_zero_fraction, whole, nought}
 use Rattle.ratio.specs.Value.{fraction_of, valued}
 use Rattle.ratio.specs.declared.reduced.Ratio.{Ratio}
-use Rattle.assembly.specs.Sums.{Entry, is_at as is_entry_at, values_at, added, entry_at, IsBefore, AreOrdered, AreSums, PassesFirst}
-use Rattle.assembly.specs.Kept.{place, place_cmp, kept_at, resumed, nonzeros, with_entry, first_passed, or_place}
+use Rattle.assembly.specs.Sums.{Entry, values_at, added, entry_at, IsBefore, AreOrdered, AreSums, PassesFirst}
+use Rattle.assembly.specs.Kept.{place, place_cmp, resumed, nonzeros, with_entry, first_passed}
 use Rattle.assembly.specs.declared.sums.Place.{Place}
-use Rattle.assembly.specs.declared.sums.Sums.{Sums}
 use Rattle.assembly.proofs.Places.{place_is_at}
 
 abbrev pub Kept : Type 0
@@ -51,7 +50,7 @@ before p q e = ⊎_elim
 
 -- ---- in order
 
-with_all : (P : Entry → Type 0) (q : Place) (r : Option Ratio) (rest : List Entry) → ((x : Fraction) → P (record { row = q.row; col = q.col; value = x })) → AllByRecursion P rest → AllByRecursion P (with_entry q r rest)
+pub with_all : (P : Entry → Type 0) (q : Place) (r : Option Ratio) (rest : List Entry) → ((x : Fraction) → P (record { row = q.row; col = q.col; value = x })) → AllByRecursion P rest → AllByRecursion P (with_entry q r rest)
 with_all P q None rest here h = h
 with_all P q (Some r) rest here h = elim (is_zero_fraction (fraction_of r)) as (λ b. AllByRecursion P (if b then rest else record { row = q.row; col = q.col; value = fraction_of r } ∷ rest)) [ true ↦ h | false ↦ (here (fraction_of r), h) ]
 
@@ -89,7 +88,7 @@ nonzero ((q, Some r) ∷ es) = with_nonzero q r (nonzeros es) (is_zero_fraction 
 
 -- ---- the values
 
-flipped : (x y : ℕ) → (x == y) ≡ (y == x)
+pub flipped : (x y : ℕ) → (x == y) ≡ (y == x)
 flipped x y = grind (arith, nat_tests)
 
 test_flipped : (a b c d : ℕ) → ((a == c) && (b == d)) ≡ ((c == a) && (d == b))

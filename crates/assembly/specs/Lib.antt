@@ -3,3 +3,9 @@ pub mod Kept
 pub mod Rows
 pub mod Local
 pub mod Run
+pub mod Assembly
+pub mod RowSums
+pub mod Stored
+pub mod LentRows
+pub mod Lent
+pub mod Machines

@@ -4,7 +4,6 @@ use Rattle.std.specs.List.{flat_map, AllByRecursion}
 use Rattle.algebra.specs.Fraction.{Fraction}
 use Rattle.ratio.specs.Value.{fraction_of}
 use Rattle.c_unit.specs.declared.unit.CFun.{CFun}
-use Rattle.c_unit.specs.declared.unit.Op.{Op}
 use Rattle.c_unit.specs.Meaning.{ran}
 use Rattle.c_run.specs.Answer.{Answer, Good, Passed, Zero, answer}
 use Rattle.mesh_in.specs.MeshData.{MeshData}

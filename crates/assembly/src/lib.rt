@@ -2,9 +2,18 @@
 //! computed, and the values of an entry are added up in the order of the cells.
 #![tactic(auto)]
 
+mod assembled;
+pub mod by_rows;
+mod coef_data;
+mod funs;
+mod lent_rows;
 mod mass;
 mod refusal;
+mod row_sums;
 mod rows;
+mod run_refusal;
+mod runs;
+mod stored;
 mod sums;
 mod triple;
 

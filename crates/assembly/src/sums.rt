@@ -25,7 +25,7 @@ pub struct Sums {
 }
 
 // The sum with one more value.
-fn with_value(sum: Option<Option<Ratio>>, value: Ratio) -> Option<Ratio>
+pub(crate) fn with_value(sum: Option<Option<Ratio>>, value: Ratio) -> Option<Ratio>
     ensures { valued result ≡ plus (option_map valued sum) (fraction_of value) }
 {
     match sum {

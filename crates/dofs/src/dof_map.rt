@@ -1,6 +1,6 @@
 //! The degrees of freedom of an element on a mesh.
 
-ghost use Rattle.std.specs.Prelude.{◌≡◌, ◌<◌, ◌^◌, Some, length, slice_get, IfOk};
+ghost use Rattle.std.specs.Prelude.{◌≡◌, ℕ, ◌<◌, ◌≤◌, ◌^◌, [], Some, length, slice_get, IfOk};
 ghost use Rattle.std.specs.List.{All};
 ghost use Rattle.dofs.specs.Rows.{Numbering};
 ghost use Rattle.dofs.specs.Places.{row_places};
@@ -97,9 +97,10 @@ impl DofMap {
         of_row
     }
 
-    /// How many rows there are.
+    /// How many rows there are. No local node has a row behind the last.
     pub fn count(&self) -> u32
-        ensures { result ≡ length self.now.labels }
+        ensures count { result ≡ length self.now.labels }
+        ensures all { (n : ℕ) → length self.now.labels ≤ n → row_places n self.now.cells ≡ [] }
     {
         self.labels.len() as u32
     }

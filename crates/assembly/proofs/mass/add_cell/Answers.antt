@@ -1,13 +1,11 @@
-use Rattle.std.proofs.Common.{◌≡◌, ◌<◌, ◌∙◌, ◌+◌, sym, ap, refl, arith, subst, length, get_or, map, ℕ, List, [], ◌∷◌}
+use Rattle.std.proofs.Common.{◌∙◌, ◌+◌, sym, ap, refl, arith, subst, length, ℕ, List, []}
 use Rattle.std.proofs.lemmas.Option.{get_or_from_slice_get}
-use Rattle.ratio.specs.Value.{fraction_of}
 use Rattle.spaces.specs.Cell.{dimension}
 use Rattle.mesh_in.specs.MeshData.{fractions}
-use Rattle.c_unit.specs.Meaning.{ran}
-use Rattle.c_run.specs.Answer.{Answer, answer}
+use Rattle.c_run.specs.Answer.{Answer}
 use Rattle.assembly.specs.Local.{Adds}
 use Rattle.assembly.specs.Rows.{row_of}
-use Rattle.assembly.specs.Run.{answer_on, tensor_of, is_good, cell_entries, IsGood, StopsAt, CellRefuses}
+use Rattle.assembly.specs.Run.{answer_on, tensor_of, is_good, cell_entries, IsGood, StopsAt}
 use Rattle.assembly.specs.declared.refusal.RunRefusal.TheVariants as refusal
 use Rattle.assembly.proofs.CellLaws.{answer_at, cell_adds, row_is}
 use Rattle.assembly.proofs.mass.add_cell.Goals as goal

@@ -1,4 +1,4 @@
-use Rattle.std.proofs.Common.{◌≡◌, ◌<◌, ◌≤◌, ◌∙◌, sym, ap, arith, subst, length, get_or, take, drop, []}
+use Rattle.std.proofs.Common.{◌≡◌, ◌≤◌, ◌∙◌, sym, arith, subst, length, get_or, []}
 use Rattle.mesh_in.specs.MeshData.{fractions}
 use Rattle.c_unit.specs.declared.unit.CFun.{CFun}
 use Rattle.assembly.specs.Run.{IsGood, cell_entries, run_entries}
@@ -7,7 +7,6 @@ use Rattle.std.proofs.lemmas.List.{take_all}
 use Rattle.std.proofs.lemmas.Result.{IfOk-weaker, MatchResult-weaker, err_from_is_err_and}
 use Rattle.assembly.specs.Sums.{AreSums}
 use Rattle.assembly.specs.Local.{Adds}
-use Rattle.assembly.specs.declared.sums.Sums.{Sums}
 use Rattle.assembly.proofs.MatrixLaws.{totals, sum_refuses}
 use Rattle.assembly.proofs.CellLaws.{all_more, refuses_with}
 use Rattle.assembly.proofs.AddsLaws.{cells_more, cells_end}

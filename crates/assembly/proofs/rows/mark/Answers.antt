@@ -1,4 +1,4 @@
-use Rattle.std.proofs.Common.{◌≡◌, ◌<◌, ◌||◌, ◌∙◌, arith, length, get_or, false, true}
+use Rattle.std.proofs.Common.{◌∙◌, arith, length, get_or, false, true}
 use Rattle.std.proofs.Math.ListN.{length-set}
 use Rattle.assembly.proofs.RowsLaws.{mark_more, below_at, or_nothing}
 use Rattle.assembly.proofs.rows.mark.Goals as goal

@@ -1,4 +1,4 @@
-use Rattle.std.proofs.Common.{◌≡◌, ◌∙◌, ◌||◌, sym, ap, arith, length, rules, get_or, false, take, subst}
+use Rattle.std.proofs.Common.{◌∙◌, ◌||◌, sym, ap, arith, get_or, false, take}
 use Rattle.assembly.specs.Rows.{has_vertex, occurs}
 use Rattle.assembly.proofs.RowsLaws.{occurs_more, or_false, or_assoc, all_occur}
 use Rattle.assembly.proofs.rows.mark_all.Goals as goal

@@ -1,5 +1,4 @@
-use Rattle.std.proofs.Common.{◌≡◌, ◌<◌, ◌||◌, ◌∙◌, sym, ap, arith, length, get_or, false, true}
-use Rattle.std.specs.Prelude.{replicate}
+use Rattle.std.proofs.Common.{◌||◌, ◌∙◌, ap, arith, length, get_or, false}
 use Rattle.std.proofs.Math.ListN.{length-replicate}
 use Rattle.std.proofs.lemmas.List.{get_or-replicate}
 use Rattle.assembly.specs.Rows.{occurs}

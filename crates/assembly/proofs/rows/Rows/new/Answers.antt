@@ -1,4 +1,4 @@
-use Rattle.std.proofs.Common.{◌≡◌, ◌<◌, ◌∙◌, sym, ap, arith, true, false, length, get_or, length-append, ◌∷◌, []}
+use Rattle.std.proofs.Common.{◌≡◌, ◌<◌, ◌∙◌, sym, ap, arith, false, length, get_or, length-append, ◌∷◌, []}
 use Rattle.assembly.specs.Rows.{row_of, occurs}
 use Rattle.assembly.proofs.RowsLaws.{row_start, row_yes, row_no, numbered}
 use Rattle.assembly.proofs.rows.Rows.new.Goals as goal

@@ -1,6 +1,6 @@
-use Rattle.std.proofs.Common.{◌<◌, length, arith, map}
+use Rattle.std.proofs.Common.{length, arith, map}
 use Rattle.ratio.specs.Value.{fraction_of}
-use Rattle.assembly.proofs.AddsLaws.{row_fits, rows_fit, local_more, local_end}
+use Rattle.assembly.proofs.AddsLaws.{rows_fit, local_more, local_end}
 use Rattle.assembly.proofs.sums.Sums.add_local.Goals as goal
 
 pub loop-row-preserved : goal.loop-row-preserved

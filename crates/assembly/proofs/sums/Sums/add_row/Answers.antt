@@ -1,4 +1,4 @@
-use Rattle.std.proofs.Common.{◌<◌, length, arith, map, drop}
+use Rattle.std.proofs.Common.{arith, map, drop}
 use Rattle.ratio.specs.Value.{fraction_of}
 use Rattle.assembly.proofs.AddsLaws.{one_added, row_more, row_end}
 use Rattle.assembly.proofs.sums.Sums.add_row.Goals as goal
