@@ -141,7 +141,7 @@ fn weight_refusal(d: u8, w: &Weight) -> Option<WeightRefusal>
 
 /// The weight of a form that is admitted, or why it isn't: first by its arity, then by its cost and by its size. Takes no memory.
 ///
-/// The numbers decide as exact ones do, and an admitted weight is the exact one: `admission_law`.
+/// Over lawful elements the numbers decide as exact ones do, and an admitted weight is the exact one: `admission_law`.
 pub fn admit(form: &Form, elements: &Elements) -> Result<Weight, WeightRefusal>
     ensures { IfOk (form_kind (form_of form.now)) (λ kind. result ≡ admission kept (dimension kind.cell) (table_of elements.now) (form_of form.now)) }
 {

@@ -1,7 +1,8 @@
 //! The weights of forms, computed, and which forms are admitted.
 //!
 //! `weigh` follows the table of the crate `weigh` node by node, with numbers kept within 127 bits; `admit` refuses a form by its
-//! pattern set and its weight. Neither takes memory. That kept numbers refuse exactly what exact ones do is `weigh::laws::decision_law`.
+//! pattern set and its weight. Neither takes memory. That over lawful elements kept numbers admit exactly what exact ones do
+//! is `admission_law`.
 #![tactic(auto)]
 
 mod forms;
