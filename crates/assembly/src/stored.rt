@@ -40,7 +40,8 @@ impl<'a> Stored<'a> {
         requires stored { IsStored self.now }
         requires cell { place.cell < self.now.cells }
         requires local { place.local < self.now.height }
-        ensures values { fractions_of result.now ≡ take self.now.width (drop (place.local * self.now.width) (tensor_at self.now place.cell)) }
+        ensures values { fractions_of result.now
+            ≡ take self.now.width (drop (place.local * self.now.width) (tensor_at self.now place.cell)) }
         ensures size { length result.now ≡ self.now.width }
     {
         let start = place.cell as usize * self.size as usize
@@ -61,7 +62,8 @@ impl<'a> Stored<'a> {
         ensures listed { AreListed sums.new.sums.items sums.new.touched.items }
         ensures room { HasRoom sums.new }
         ensures columns { length sums.new.sums.items ≡ length sums.old.sums.items }
-        ensures added { (row : ℕ) → AddsInRow row (stored_row self.now row place) sums.old.sums.items sums.new.sums.items }
+        ensures added { (row : ℕ)
+            → AddsInRow row (stored_row self.now row place) sums.old.sums.items sums.new.sums.items }
     {
         let values = self.local_row(place);
         match self.cols {
