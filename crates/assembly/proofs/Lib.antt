@@ -13,3 +13,4 @@ pub mod WholeLaws
 pub mod LentLaws
 pub mod AssembledLaws
 pub mod FitLaws
+pub mod SharesLaws

@@ -8,11 +8,14 @@
 //!
 //! - `Rows` lends the entries row after row, and `assemble` gives all of them: the sums that are not zero, by row and
 //!   then by column. An argument that the form doesn't have has one row, number 0.
+//! - `cells` gives what each cell adds, by itself: the values of its local tensor that are not zero.
 //! - Nothing is run where all cells together have more than 2^24 local entries. Else the first cell whose run stops
-//!   is named with the statement that stopped it; where none stops, the first row and column whose sum passes.
+//!   is named with the statement that stopped it; where none stops, `Rows` and `assemble` name the first row and
+//!   column whose sum passes.
 
 pub use crate::assembled::assemble;
 pub use crate::coef_data::CoefData;
 pub use crate::funs::{Funs, MarkedFun};
 pub use crate::lent_rows::Rows;
 pub use crate::run_refusal::RunRefusal;
+pub use crate::shares::{CellShare, cells};
