@@ -78,7 +78,7 @@ row_fits rows i m n p e = (room (length rows - (i + 1)) m n (one_less rows i m n
 pub rows_fit : (rows : List ℕ) (i m n k : ℕ) → i < length rows → (length rows - i) * m ≡ n → k + m ≡ n → (length rows - (i + 1)) * m ≡ k
 rows_fit rows i m n k p e f = omega (arith, (room (length rows - (i + 1)) m n (one_less rows i m n p e)).1, f)
 
-rows_here : (rows cols : List ℕ) (values : List Ratio) (i : ℕ) → i < length rows
+pub rows_here : (rows cols : List ℕ) (values : List Ratio) (i : ℕ) → i < length rows
     → local_entries (drop i rows) cols (map fraction_of values)
     ≡ row_entries (get_or rows i 0) cols (map fraction_of (take (length cols) values)) ++ local_entries (drop (i + 1) rows) cols (map fraction_of (drop (length cols) values))
 rows_here rows cols values i p = rw (add-one, drop-cons rows i 0, ← take-map, ← drop-map) refl

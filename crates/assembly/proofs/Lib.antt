@@ -12,3 +12,5 @@ pub mod MachineLaws
 pub mod WholeLaws
 pub mod LentLaws
 pub mod AssembledLaws
+pub mod FitLaws
+pub mod SharesLaws

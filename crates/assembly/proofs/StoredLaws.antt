@@ -112,7 +112,7 @@ at_index P [] i d a h = absurd (omega arith)
 at_index P (x ∷ xs) zero d a h = a.0
 at_index P (x ∷ xs) (suc i) d a h = at_index P xs i d a.1 (omega arith)
 
-width_at : (cells width : ℕ) (cols : Option Numbering) (j : ℕ) → IsMapOf cells width cols → j < cells → length (argument_rows cols j) ≡ width
+pub width_at : (cells width : ℕ) (cols : Option Numbering) (j : ℕ) → IsMapOf cells width cols → j < cells → length (argument_rows cols j) ≡ width
 width_at cells width None j m h = sym m
 width_at cells width (Some n) j m h = at_index (λ (rows : List ℕ). length rows ≡ width) n.cells j [] m.1 (omega (arith, m.0))
 

@@ -72,11 +72,14 @@ marker_of m k = slice_index_or m.markers k 0
 
 -- the values of a coefficient at the rows of its local nodes on cell k
 abbrev pub coefficient_values : ℕ → CoefData → List Fraction
-coefficient_values k c = map (λ r. slice_index_or (fractions_of c.values.items) r zero_fraction) (slice_index_or c.map.cells k [])
+coefficient_values k c =
+    map (λ r. slice_index_or (fractions_of c.values.items) r zero_fraction) (slice_index_or c.map.cells k [])
 
 -- what the function of cell k answers there: X has the coordinates of the vertices, W the values of the coefficients
 unfoldable pub answer_on : Runs → ℕ → Answer
-answer_on s k = answer (ran (fun_on s.funs (marker_of s.mesh k)) (coordinates_of (fractions s.mesh) (slice_index_or s.mesh.cells k [])) (flat_map (coefficient_values k) s.coefs))
+answer_on s k = answer (ran (fun_on s.funs (marker_of s.mesh k))
+    (coordinates_of (fractions s.mesh) (slice_index_or s.mesh.cells k []))
+    (flat_map (coefficient_values k) s.coefs))
 
 abbrev pub cell_count : Runs → ℕ
 cell_count s = length s.mesh.cells
@@ -155,7 +158,8 @@ AreGood s = (k : ℕ) → k < cell_count s → IsGoodOn s k
 -- the run stops for this reason
 abbrev pub StopsFor : Answer → RunRefusal → Type 0
 StopsFor (Zero at a) (refusal.Zero cell at') = at' ≡ at
-StopsFor (Passed at op l r a) (refusal.CellPassed cell at' op' l' r') = (at' ≡ at) × (op' ≡ op) × (fraction_of l' ≡ l) × (fraction_of r' ≡ r)
+StopsFor (Passed at op l r a) (refusal.CellPassed cell at' op' l' r') =
+    (at' ≡ at) × (op' ≡ op) × (fraction_of l' ≡ l) × (fraction_of r' ≡ r)
 StopsFor _ _ = ⊥
 
 -- the run on this cell is the first that stops, and it does for this reason

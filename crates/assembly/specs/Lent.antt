@@ -44,5 +44,6 @@ IsRowRefusal s Memory = ⊥
 -- what a call for the next row answers, and what it leaves: where it refuses, each later call answers the same
 abbrev pub IsNextRow : LentRows → Option (Result ℕ RunRefusal) → LentRows → Type 0
 IsNextRow old None new = (old.next ≡ lent_count old) × (new ≡ old)
-IsNextRow old (Some (Ok row)) new = IsRow old row (map seen new.entries) × (new ≡ record old { next = old.next + 1; entries = new.entries })
+IsNextRow old (Some (Ok row)) new =
+    IsRow old row (map seen new.entries) × (new ≡ record old { next = old.next + 1; entries = new.entries })
 IsNextRow old (Some (Err e)) new = IsRowRefusal old e × (new ≡ record old { entries = new.entries })

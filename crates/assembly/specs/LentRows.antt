@@ -31,7 +31,15 @@ abbrev pub lent_count : LentRows → ℕ
 lent_count r = row_count r.rows
 
 abbrev pub lent_rows : Stored → List Triple → ℕ → LentRows
-lent_rows s entries next = record { rows = rows_of s; cols = cols_of s; cells = s.cells; size = s.size; values = s.values.items; entries = entries; next = next }
+lent_rows s entries next = record {
+  rows = rows_of s;
+  cols = cols_of s;
+  cells = s.cells;
+  size = s.size;
+  values = s.values.items;
+  entries = entries;
+  next = next;
+}
 
 -- with room for the entries of any row
 pub record AreLent (s : Stored) (sums : RowSums) (room count next : ℕ) : Type 0 where

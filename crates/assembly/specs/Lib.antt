@@ -9,3 +9,4 @@ pub mod Stored
 pub mod LentRows
 pub mod Lent
 pub mod Machines
+pub mod Shares

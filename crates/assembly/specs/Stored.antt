@@ -51,7 +51,8 @@ places_in (Some n) cells row = row_places row n.cells
 
 -- what the local row of a place adds to its row
 abbrev pub place_entries : Option Numbering → (ℕ → List Fraction) → ℕ → ℕ → RowPlace → List Entry
-place_entries cols tensor width row p = row_entries row (argument_rows cols p.cell) (take width (drop (p.local * width) (tensor p.cell)))
+place_entries cols tensor width row p =
+    row_entries row (argument_rows cols p.cell) (take width (drop (p.local * width) (tensor p.cell)))
 
 abbrev pub stored_row : Stored → ℕ → RowPlace → List Entry
 stored_row s row p = place_entries (cols_of s) (tensor_at s) s.width row p

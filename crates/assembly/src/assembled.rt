@@ -16,8 +16,13 @@ use mesh_in::Mesh;
 use monos::Layout;
 use std::alloc::Global;
 
-/// The entries of a form's matrix that are not zero, by row and then by column: the sums of the values of its functions on the
-/// cells, added up in the order of the cells. An argument that the form doesn't have has one row, number 0.
+/// The entries of a form's matrix that are not zero, by row and then by column: the sums of the values of its
+/// functions on the cells, added up in the order of the cells. An argument that the form doesn't have has one row,
+/// number 0.
+///
+/// Errors: `TooManyEntries` exactly where all cells together have more than 2^24 local entries; else `Zero` or
+/// `CellPassed` of the first cell whose run stops; else `SumPassed` of the first row and column whose sum passes;
+/// `Memory`.
 pub fn assemble(
     alloc: Global,
     f: &Funs,
@@ -29,10 +34,12 @@ pub fn assemble(
 ) -> Result<Vec<Triple>, RunRefusal>
     requires { Fits l.now (assembly_of f.now m.now (option_copied rows) (option_copied cols) coefs.now) }
     ensures sums { IfOk result (λ ts. AreSums
-        (run_entries (assembly_of f.now m.now (option_copied rows.entry) (option_copied cols.entry) coefs.now)) (map seen ts.items)) }
+        (run_entries (assembly_of f.now m.now (option_copied rows.entry) (option_copied cols.entry) coefs.now))
+        (map seen ts.items)) }
     ensures few { OnOk result (IsFew (runs_of f.now m.now coefs.now)) }
     ensures good { OnOk result (AreGood (runs_of f.now m.now coefs.now)) }
-    ensures refusal { IfErr result (Refused (assembly_of f.now m.now (option_copied rows.entry) (option_copied cols.entry) coefs.now)) }
+    ensures refusal { IfErr result (Refused
+        (assembly_of f.now m.now (option_copied rows.entry) (option_copied cols.entry) coefs.now)) }
 {
     let mut lent = Rows::new(alloc, f, l, m, rows, cols, coefs)?;
     let mut triples = Vec::new(alloc);

@@ -52,6 +52,9 @@ fn count_of(map: Option<&DofMap>) -> u32
 
 impl<'a> Rows<'a> {
     /// Runs the functions of a form on all cells and keeps their values. It takes all memory that later calls need.
+    ///
+    /// Errors: `TooManyEntries` exactly where all cells together have more than 2^24 local entries; else `Zero` or
+    /// `CellPassed` of the first cell whose run stops; `Memory`.
     pub fn new(
         alloc: Global,
         f: &Funs,
@@ -62,7 +65,8 @@ impl<'a> Rows<'a> {
         coefs: &[CoefData],
     ) -> Result<Rows<'a>, RunRefusal>
         requires { Fits l.now (assembly_of f.now m.now (option_copied rows) (option_copied cols) coefs.now) }
-        ensures rows { IfOk result (AreStarted (assembly_of f.now m.now (option_copied rows.entry) (option_copied cols.entry) coefs.now)) }
+        ensures rows { IfOk result (AreStarted
+            (assembly_of f.now m.now (option_copied rows.entry) (option_copied cols.entry) coefs.now)) }
         ensures within { IfOk result HasNoneBeyond }
         ensures few { OnOk result (IsFew (runs_of f.now m.now coefs.now)) }
         ensures good { OnOk result (AreGood (runs_of f.now m.now coefs.now)) }
@@ -86,8 +90,9 @@ impl<'a> Rows<'a> {
         self.count
     }
 
-    /// Adds up the next row, whose number is answered: rows come in order, empty ones too, and `None` after the last. Where
-    /// the sum of an entry passes, this call and each later one answers the first such entry of the row. It takes no memory.
+    /// Adds up the next row, whose number is answered: rows come in order, empty ones too, and `None` after the last.
+    /// Where the sum of an entry passes, this call and each later one answers the first such entry of the row. It
+    /// takes no memory.
     pub fn next_row(&mut self) -> Option<Result<u32, RunRefusal>>
         ensures { IsNextRow self.old result self.new }
     {

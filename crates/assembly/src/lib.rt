@@ -13,6 +13,7 @@ mod row_sums;
 mod rows;
 mod run_refusal;
 mod runs;
+mod shares;
 mod stored;
 mod sums;
 mod triple;
@@ -21,3 +22,6 @@ pub use mass::assemble_mass;
 pub use refusal::RunRefusal;
 pub use rows::Rows;
 pub use triple::Triple;
+
+#[cfg(test)]
+mod tests;

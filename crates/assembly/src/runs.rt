@@ -21,7 +21,8 @@ use std::alloc::{AllocError, Global};
 /// The coordinates of the vertices of cell k, in place of what `x` holds.
 fn gather_coordinates(mesh: &Mesh, k: u32, x: &mut Vec<Ratio>) -> Result<(), AllocError>
     requires { k < length mesh.now.cells }
-    ensures { OnOk result (fractions_of x.new.items ≡ coordinates_of (fractions mesh.now) (slice_index_or mesh.now.cells k [])) }
+    ensures { OnOk result (fractions_of x.new.items
+        ≡ coordinates_of (fractions mesh.now) (slice_index_or mesh.now.cells k [])) }
 {
     x.clear();
     let vertices = mesh.cell(k).vertices;
@@ -148,7 +149,8 @@ fn run_cell(
     ensures funs { machines.new.funs ≡ machines.old.funs }
     ensures machines { AreMachines machines.new }
     ensures size { OnOk result (length values.new.items ≡ length values.old.items + machines.old.funs.now.plain.a) }
-    ensures good { OnOk result (is_good (answer (ran (fun_on machines.old.funs.now marker) (fractions_of x.now) (fractions_of w.now))) ≡ true) }
+    ensures good { OnOk result (is_good
+        (answer (ran (fun_on machines.old.funs.now marker) (fractions_of x.now) (fractions_of w.now))) ≡ true) }
     ensures values { OnOk result (fractions_of values.new.items ≡ fractions_of values.old.items
         ++ tensor_of (answer (ran (fun_on machines.old.funs.now marker) (fractions_of x.now) (fractions_of w.now)))) }
     ensures refusal { IfErr result (CellRefused
@@ -162,8 +164,7 @@ fn run_cell(
     Ok(())
 }
 
-/// The local tensors of all cells, cell after cell. All memory is taken before the first run, and where it isn't there nothing
-/// is run.
+/// The local tensors of all cells, cell after cell. The memory for them is taken before the first run.
 pub fn run_cells(
     alloc: Global,
     f: &Funs,
@@ -174,7 +175,8 @@ pub fn run_cells(
     requires few { IsFew (runs_of f.now m.now coefs.now) }
     ensures size { IfOk result (λ v. length v.items ≡ length m.now.cells * f.now.plain.a) }
     ensures values { IfOk result (λ v. (k : ℕ) → k < length m.now.cells
-        → take f.now.plain.a (drop (k * f.now.plain.a) (fractions_of v.items)) ≡ tensor_on (runs_of f.now m.now coefs.now) k) }
+        → take f.now.plain.a (drop (k * f.now.plain.a) (fractions_of v.items))
+        ≡ tensor_on (runs_of f.now m.now coefs.now) k) }
     ensures good { OnOk result (AreGood (runs_of f.now m.now coefs.now)) }
     ensures refusal { IfErr result (RunRefused (runs_of f.now m.now coefs.now)) }
 {

@@ -1,10 +1,11 @@
 // The local tensors of all cells, at the rows and columns of the cells.
 
-ghost use Rattle.std.specs.Prelude.{◌≡◌, ℕ, ◌*◌, ◌<◌, length, take, drop, IfOk, IfErr, OnOk};
+ghost use Rattle.std.specs.Prelude.{◌≡◌, ℕ, ◌*◌, ◌<◌, length, take, drop, Some, IfOk, IfErr, OnOk};
 ghost use Rattle.c_unit.specs.Meaning.{fractions_of};
 ghost use Rattle.std.specs.Option.{option_copied};
 ghost use Rattle.assembly.specs.RowSums.{AddsInRow, AreListed, HasRoom, IsClear};
-ghost use Rattle.assembly.specs.Assembly.{Fits, IsFew, AreGood, RunRefused, row_count, width_of, assembly_of, runs_of, run_entries};
+ghost use Rattle.dofs.specs.Rows.{Numbering};
+ghost use Rattle.assembly.specs.Assembly.{Fits, IsFew, AreGood, RunRefused, argument_rows, row_count, width_of, assembly_of, runs_of, run_entries, tensor_on, cell_count};
 ghost use Rattle.assembly.specs.Stored.{IsStored, column_count, rows_of, cols_of, tensor_at, stored_entries, of_row, stored_row};
 
 use crate::coef_data::CoefData;
@@ -35,12 +36,26 @@ pub struct Stored<'a> {
 }
 
 impl<'a> Stored<'a> {
+    /// The local tensor of a cell.
+    pub fn tensor(&self, k: u32) -> &[Ratio]
+        requires stored { IsStored self.now }
+        requires cell { k < self.now.cells }
+        ensures values { fractions_of result.now ≡ tensor_at self.now k }
+        ensures size { length result.now ≡ self.now.size }
+    {
+        let start = k as usize * self.size as usize;
+        let (_, rest) = self.values.split_at(start);
+        let (tensor, _) = rest.split_at(self.size as usize);
+        tensor
+    }
+
     // The values of a local row of a cell.
     fn local_row(&self, place: RowPlace) -> &[Ratio]
         requires stored { IsStored self.now }
         requires cell { place.cell < self.now.cells }
         requires local { place.local < self.now.height }
-        ensures values { fractions_of result.now ≡ take self.now.width (drop (place.local * self.now.width) (tensor_at self.now place.cell)) }
+        ensures values { fractions_of result.now
+            ≡ take self.now.width (drop (place.local * self.now.width) (tensor_at self.now place.cell)) }
         ensures size { length result.now ≡ self.now.width }
     {
         let start = place.cell as usize * self.size as usize
@@ -61,7 +76,8 @@ impl<'a> Stored<'a> {
         ensures listed { AreListed sums.new.sums.items sums.new.touched.items }
         ensures room { HasRoom sums.new }
         ensures columns { length sums.new.sums.items ≡ length sums.old.sums.items }
-        ensures added { (row : ℕ) → AddsInRow row (stored_row self.now row place) sums.old.sums.items sums.new.sums.items }
+        ensures added { (row : ℕ)
+            → AddsInRow row (stored_row self.now row place) sums.old.sums.items sums.new.sums.items }
     {
         let values = self.local_row(place);
         match self.cols {
@@ -96,6 +112,20 @@ impl<'a> Stored<'a> {
     }
 }
 
+// An argument that the form doesn't have has this row.
+const ONE_ROW: &[u32] = &[0];
+
+/// The rows of the local nodes of a cell.
+pub fn local_rows<'a>(map: Option<&'a DofMap>, k: u32) -> &'a [u32]
+    requires { (n : Numbering) → option_copied map ≡ Some n → k < length n.cells }
+    ensures { result.now ≡ argument_rows (option_copied map.entry) k }
+{
+    match map {
+        Some(map) => map.of_cell(k),
+        None => ONE_ROW,
+    }
+}
+
 const MOST_ENTRIES: u64 = 1 << 24;
 
 /// How many local rows an argument has: one where the form doesn't have it.
@@ -124,6 +154,8 @@ pub fn store<'a>(
     ensures maps { IfOk result (λ s. (rows_of s ≡ option_copied rows.entry) × (cols_of s ≡ option_copied cols.entry)) }
     ensures entries { IfOk result (λ s. stored_entries s
         ≡ run_entries (assembly_of f.now m.now (option_copied rows.entry) (option_copied cols.entry) coefs.now)) }
+    ensures tensors { IfOk result (λ s. (s.cells ≡ cell_count (runs_of f.now m.now coefs.now))
+        × ((k : ℕ) → k < s.cells → tensor_at s k ≡ tensor_on (runs_of f.now m.now coefs.now) k)) }
     ensures few { OnOk result (IsFew (runs_of f.now m.now coefs.now)) }
     ensures good { OnOk result (AreGood (runs_of f.now m.now coefs.now)) }
     ensures refusal { IfErr result (RunRefused (runs_of f.now m.now coefs.now)) }

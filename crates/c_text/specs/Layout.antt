@@ -36,7 +36,9 @@ unfoldable pub step_pieces : ℕ → ℕ → List Piece
 step_pieces depth n = if n == 0 then [] else Sign (codes "+") ∷ number n ∷ Sign (codes "*") ∷ Solid (counter depth) ∷ []
 
 unfoldable pub steps_pieces : List ℕ → List Piece
-steps_pieces steps = step_pieces 0 (slice_index steps 0) ++ (step_pieces 1 (slice_index steps 1) ++ (step_pieces 2 (slice_index steps 2) ++ step_pieces 3 (slice_index steps 3)))
+steps_pieces steps =
+    step_pieces 0 (slice_index steps 0) ++ (step_pieces 1 (slice_index steps 1)
+    ++ (step_pieces 2 (slice_index steps 2) ++ step_pieces 3 (slice_index steps 3)))
 
 unfoldable pub slot_pieces : Slot → List Piece
 slot_pieces s = number s.base ∷ steps_pieces s.steps
@@ -48,7 +50,8 @@ array_name T = codes "T"
 array_name A = codes "A"
 
 unfoldable pub place_pieces : Place → List Piece
-place_pieces p = Sign (codes "&") ∷ Solid (array_name p.array) ∷ Sign (codes "[") ∷ slot_pieces p.slot ++ Sign (codes "]") ∷ []
+place_pieces p =
+    Sign (codes "&") ∷ Solid (array_name p.array) ∷ Sign (codes "[") ∷ slot_pieces p.slot ++ Sign (codes "]") ∷ []
 
 abbrev pub sign_pieces : ℤ → Piece
 sign_pieces n = Solid (if is_negative n then codes "1" else codes "0")
@@ -56,7 +59,8 @@ sign_pieces n = Solid (if is_negative n then codes "1" else codes "0")
 -- the sign, the size of the numerator and the denominator, each of the two as its quotient and rest by 2^64
 abbrev pub parts_pieces : ℤ → ℕ → List Piece
 parts_pieces n d =
-    sign_pieces n ∷ Sign (codes ",") ∷ blank ∷ half (unsigned_abs n / 2 ^ 64) ∷ Sign (codes ",") ∷ blank ∷ half (unsigned_abs n % 2 ^ 64)
+    sign_pieces n ∷ Sign (codes ",") ∷ blank ∷ half (unsigned_abs n / 2 ^ 64) ∷ Sign (codes ",") ∷ blank
+    ∷ half (unsigned_abs n % 2 ^ 64)
     ∷ Sign (codes ",") ∷ blank ∷ half (d / 2 ^ 64) ∷ Sign (codes ",") ∷ blank ∷ half (d % 2 ^ 64) ∷ []
 
 unfoldable pub value_pieces : Ratio → List Piece
@@ -71,13 +75,16 @@ indent depth = Gap (replicate (2 * depth + 2) 32)
 -- a line that is a call of one argument behind the target
 abbrev pub call_pieces : ℕ → List ℕ → Place → List Piece → List Piece
 call_pieces depth name to more =
-    indent depth ∷ Solid name ∷ Sign (codes "(") ∷ place_pieces to ++ (Sign (codes ",") ∷ blank ∷ more ++ (Sign (codes ")") ∷ Sign (codes ";") ∷ feed ∷ []))
+    indent depth ∷ Solid name ∷ Sign (codes "(") ∷ place_pieces to ++ (Sign (codes ",") ∷ blank ∷ more
+    ++ (Sign (codes ")") ∷ Sign (codes ";") ∷ feed ∷ []))
 
 -- a line whose call may end the run with this number
 abbrev pub test_pieces : ℕ → List ℕ → Place → List Piece → List ℕ → List Piece
 test_pieces depth name to more number =
-    indent depth ∷ Solid (codes "if") ∷ blank ∷ Sign (codes "(") ∷ Solid name ∷ Sign (codes "(") ∷ place_pieces to ++ (Sign (codes ",") ∷ blank ∷ more
-    ++ (Sign (codes ")") ∷ Sign (codes ")") ∷ blank ∷ Solid (codes "return") ∷ blank ∷ Solid number ∷ Sign (codes ";") ∷ feed ∷ []))
+    indent depth ∷ Solid (codes "if") ∷ blank ∷ Sign (codes "(") ∷ Solid name ∷ Sign (codes "(") ∷ place_pieces to
+    ++ (Sign (codes ",") ∷ blank ∷ more
+    ++ (Sign (codes ")") ∷ Sign (codes ")") ∷ blank ∷ Solid (codes "return") ∷ blank ∷ Solid number
+    ∷ Sign (codes ";") ∷ feed ∷ []))
 
 abbrev pub both_pieces : Place → Place → List Piece
 both_pieces left right = place_pieces left ++ (Sign (codes ",") ∷ blank ∷ place_pieces right)
@@ -86,12 +93,15 @@ abbrev pub table_name : ℕ → List ℕ
 table_name k = codes "K" ++ decimal k
 
 abbrev pub item_pieces : ℕ → Slot → List Piece
-item_pieces table at = Sign (codes "&") ∷ Solid (table_name table) ∷ Sign (codes "[") ∷ slot_pieces at ++ Sign (codes "]") ∷ []
+item_pieces table at =
+    Sign (codes "&") ∷ Solid (table_name table) ∷ Sign (codes "[") ∷ slot_pieces at ++ Sign (codes "]") ∷ []
 
 abbrev pub header_pieces : ℕ → ℕ → List Piece
 header_pieces depth turns =
-    indent depth ∷ Solid (codes "for") ∷ blank ∷ Sign (codes "(") ∷ Solid (codes "int") ∷ blank ∷ Solid (counter depth) ∷ blank ∷ Sign (codes "=") ∷ blank ∷ Solid (codes "0") ∷ Sign (codes ";") ∷ blank
-    ∷ Solid (counter depth) ∷ blank ∷ Sign (codes "<") ∷ blank ∷ number turns ∷ Sign (codes ";") ∷ blank ∷ Solid (counter depth) ∷ Sign (codes "++") ∷ Sign (codes ")") ∷ blank ∷ Sign (codes "{") ∷ feed ∷ []
+    indent depth ∷ Solid (codes "for") ∷ blank ∷ Sign (codes "(") ∷ Solid (codes "int") ∷ blank
+    ∷ Solid (counter depth) ∷ blank ∷ Sign (codes "=") ∷ blank ∷ Solid (codes "0") ∷ Sign (codes ";") ∷ blank
+    ∷ Solid (counter depth) ∷ blank ∷ Sign (codes "<") ∷ blank ∷ number turns ∷ Sign (codes ";") ∷ blank
+    ∷ Solid (counter depth) ∷ Sign (codes "++") ∷ Sign (codes ")") ∷ blank ∷ Sign (codes "{") ∷ feed ∷ []
 
 abbrev pub close_pieces : ℕ → List Piece
 close_pieces depth = indent depth ∷ Sign (codes "}") ∷ feed ∷ []
@@ -121,9 +131,12 @@ pub rows : (depth : ℕ) (m : _) (k : Row_of-CStmt m) → row_pieces depth k ≡
 rows depth m end_of-CStmt = refl
 rows depth m (more_of-CStmt c rest) = ap (λ ps. one_pieces depth c ++ ps) (rows depth _ rest)
 
-pub one_pieces-For : (depth n : ℕ) (body : List CStmt) → one_pieces depth (View.For n body) ≡ header_pieces depth n ++ (body_pieces (deeper depth) body ++ close_pieces depth)
+pub one_pieces-For : (depth n : ℕ) (body : List CStmt)
+    → one_pieces depth (View.For n body) ≡ header_pieces depth n ++ (body_pieces (deeper depth) body ++ close_pieces depth)
 one_pieces-For depth n body =
-    ap (λ ps. header_pieces depth n ++ (ps ++ close_pieces depth)) (rows (deeper depth) _ (hidden-the_row-CStmt-0 body) ∙ ap (body_pieces (deeper depth)) (items_hidden-the_row-CStmt-0 body))
+    ap (λ ps. header_pieces depth n ++ (ps ++ close_pieces depth))
+    (rows (deeper depth) _ (hidden-the_row-CStmt-0 body)
+    ∙ ap (body_pieces (deeper depth)) (items_hidden-the_row-CStmt-0 body))
 
 -- ---- tables, functions and units
 
@@ -141,8 +154,10 @@ items_pieces (v ∷ vs) = blank ∷ fraction_pieces v ++ more_items vs
 
 abbrev pub table_pieces : ℕ → List Ratio → List Piece
 table_pieces k vs =
-    indent 0 ∷ Solid (codes "static") ∷ blank ∷ Solid (codes "const") ∷ blank ∷ Solid (codes "fr_lit") ∷ blank ∷ Solid (table_name k) ∷ Sign (codes "[") ∷ number (length vs) ∷ Sign (codes "]") ∷ blank
-    ∷ Sign (codes "=") ∷ blank ∷ Sign (codes "{") ∷ items_pieces vs ++ (blank ∷ Sign (codes "}") ∷ Sign (codes ";") ∷ feed ∷ [])
+    indent 0 ∷ Solid (codes "static") ∷ blank ∷ Solid (codes "const") ∷ blank ∷ Solid (codes "fr_lit") ∷ blank
+    ∷ Solid (table_name k) ∷ Sign (codes "[") ∷ number (length vs) ∷ Sign (codes "]") ∷ blank
+    ∷ Sign (codes "=") ∷ blank ∷ Sign (codes "{") ∷ items_pieces vs ++ (blank ∷ Sign (codes "}") ∷ Sign (codes ";")
+    ∷ feed ∷ [])
 
 -- tables, the first of them with this number
 abbrev pub tables_pieces : ℕ → List (List Ratio) → List Piece
@@ -154,29 +169,41 @@ size_pieces name array n = Solid (name ++ (codes "_" ++ array)) ∷ blank ∷ Si
 
 abbrev pub enum_pieces : CFun → List Piece
 enum_pieces f =
-    Solid (codes "enum") ∷ blank ∷ Sign (codes "{") ∷ blank ∷ size_pieces f.name (codes "X") f.x ++ (Sign (codes ",") ∷ blank ∷ size_pieces f.name (codes "W") f.w
-    ++ (Sign (codes ",") ∷ blank ∷ size_pieces f.name (codes "T") f.t ++ (Sign (codes ",") ∷ blank ∷ size_pieces f.name (codes "A") f.a
+    Solid (codes "enum") ∷ blank ∷ Sign (codes "{") ∷ blank ∷ size_pieces f.name (codes "X") f.x
+    ++ (Sign (codes ",") ∷ blank ∷ size_pieces f.name (codes "W") f.w
+    ++ (Sign (codes ",") ∷ blank ∷ size_pieces f.name (codes "T") f.t
+    ++ (Sign (codes ",") ∷ blank ∷ size_pieces f.name (codes "A") f.a
     ++ (blank ∷ Sign (codes "}") ∷ Sign (codes ";") ∷ feed ∷ []))))
 
 abbrev pub signature_pieces : List ℕ → List Piece
 signature_pieces name =
-    Solid (codes "int") ∷ blank ∷ Solid name ∷ Sign (codes "(") ∷ Solid (codes "const") ∷ blank ∷ Solid (codes "fr") ∷ blank ∷ Sign (codes "*") ∷ Solid (codes "X") ∷ Sign (codes ",") ∷ blank
-    ∷ Solid (codes "const") ∷ blank ∷ Solid (codes "fr") ∷ blank ∷ Sign (codes "*") ∷ Solid (codes "W") ∷ Sign (codes ",") ∷ blank
-    ∷ Solid (codes "fr") ∷ blank ∷ Sign (codes "*") ∷ Solid (codes "A") ∷ Sign (codes ")") ∷ feed ∷ Sign (codes "{") ∷ feed ∷ []
+    Solid (codes "int") ∷ blank ∷ Solid name ∷ Sign (codes "(") ∷ Solid (codes "const") ∷ blank ∷ Solid (codes "fr")
+    ∷ blank ∷ Sign (codes "*") ∷ Solid (codes "X") ∷ Sign (codes ",") ∷ blank
+    ∷ Solid (codes "const") ∷ blank ∷ Solid (codes "fr") ∷ blank ∷ Sign (codes "*") ∷ Solid (codes "W")
+    ∷ Sign (codes ",") ∷ blank
+    ∷ Solid (codes "fr") ∷ blank ∷ Sign (codes "*") ∷ Solid (codes "A") ∷ Sign (codes ")") ∷ feed ∷ Sign (codes "{")
+    ∷ feed ∷ []
 
 abbrev pub clear_pieces : List ℕ → ℕ → List Piece
-clear_pieces array n = indent 0 ∷ Solid (codes "fr_clear") ∷ Sign (codes "(") ∷ Solid array ∷ Sign (codes ",") ∷ blank ∷ number n ∷ Sign (codes ")") ∷ Sign (codes ";") ∷ feed ∷ []
+clear_pieces array n =
+    indent 0 ∷ Solid (codes "fr_clear") ∷ Sign (codes "(") ∷ Solid array ∷ Sign (codes ",") ∷ blank ∷ number n
+    ∷ Sign (codes ")") ∷ Sign (codes ";") ∷ feed ∷ []
 
 abbrev pub slots_pieces : CFun → List Piece
 slots_pieces f =
-    indent 0 ∷ Solid (codes "fr") ∷ blank ∷ Solid (codes "T") ∷ Sign (codes "[") ∷ number f.t ∷ Sign (codes "]") ∷ Sign (codes ";") ∷ feed
+    indent 0 ∷ Solid (codes "fr") ∷ blank ∷ Solid (codes "T") ∷ Sign (codes "[") ∷ number f.t ∷ Sign (codes "]")
+    ∷ Sign (codes ";") ∷ feed
     ∷ clear_pieces (codes "T") f.t ++ clear_pieces (codes "A") f.a
 
 abbrev pub end_pieces : List Piece
-end_pieces = indent 0 ∷ Solid (codes "return") ∷ blank ∷ Solid (codes "0") ∷ Sign (codes ";") ∷ feed ∷ Sign (codes "}") ∷ feed ∷ []
+end_pieces =
+    indent 0 ∷ Solid (codes "return") ∷ blank ∷ Solid (codes "0") ∷ Sign (codes ";") ∷ feed ∷ Sign (codes "}")
+    ∷ feed ∷ []
 
 abbrev pub fun_pieces : CFun → List Piece
-fun_pieces f = enum_pieces f ++ (signature_pieces f.name ++ (slots_pieces f ++ (tables_pieces 0 f.tables ++ (body_pieces 0 f.body ++ end_pieces))))
+fun_pieces f =
+    enum_pieces f ++ (signature_pieces f.name ++ (slots_pieces f ++ (tables_pieces 0 f.tables
+    ++ (body_pieces 0 f.body ++ end_pieces))))
 
 abbrev pub funs_pieces : List CFun → List Piece
 funs_pieces [] = []

@@ -22,10 +22,14 @@ small_value text = decimal_below (2 ^ 32) text
 unfoldable pub half_value : List ℕ → Option ℕ
 half_value text = if slice_index text (length text - 1) == 117 then decimal_value (take (length text - 1) text) else None
 
+-- this letter and a decimal below 2^32
+abbrev pub value_behind : ℕ → List ℕ → Option ℕ
+value_behind letter text = if slice_index text 0 == letter then small_value (drop 1 text) else None
+
 -- the number of a table: `K` and a decimal
 unfoldable pub table_value : List ℕ → Option ℕ
-table_value text = if slice_index text 0 == 75 then small_value (drop 1 text) else None
+table_value text = value_behind 75 text
 
 -- the number of a counter
 unfoldable pub counter_value : List ℕ → Option ℕ
-counter_value text = if slice_index text 0 == 105 then small_value (drop 1 text) else None
+counter_value text = value_behind 105 text

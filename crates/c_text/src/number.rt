@@ -4,7 +4,7 @@ ghost use Rattle.std.specs.Prelude.{◌≡◌, ◌<◌, ◌^◌};
 ghost use Rattle.std.specs.Option.{SomeIff};
 ghost use Rattle.std.specs.Char.{digit_value};
 ghost use Rattle.std.specs.Str.Parse.{digits_value, AllDigits};
-ghost use Rattle.c_text.specs.Numbers.{decimal_value as value_of_decimal, small_value as value_of_small, half_value as value_of_half, table_value as value_of_table, counter_value as value_of_counter};
+ghost use Rattle.c_text.specs.Numbers.{decimal_value as value_of_decimal, small_value as value_of_small, half_value as value_of_half, table_value as value_of_table, counter_value as value_of_counter, value_behind};
 
 const LIMIT: u128 = 0x1_0000_0000_0000_0000;
 
@@ -74,19 +74,27 @@ pub fn half(text: &[u8]) -> Option<u64>
     }
 }
 
+// The number behind this letter.
+#[tactic(auto, unfolding(crate::specs::Numbers::small_value))]
+fn number_behind(letter: u8, text: &[u8]) -> Option<u32>
+    ensures { result ≡ value_behind letter text.now }
+{
+    if text.is_empty() {
+        return None;
+    }
+    if text[0] == letter {
+        small(&text[1..])
+    } else {
+        None
+    }
+}
+
 /// The number of a table: `K0`, `K1` and so on.
 #[tactic(auto, unfolding(crate::specs::Numbers::table_value))]
 pub fn table_number(text: &[u8]) -> Option<u32>
     ensures { result ≡ value_of_table text.now }
 {
-    if text.is_empty() {
-        return None;
-    }
-    if text[0] == b'K' {
-        small(&text[1..])
-    } else {
-        None
-    }
+    number_behind(b'K', text)
 }
 
 /// The number of a counter: `i0`, `i1` and so on.
@@ -94,12 +102,5 @@ pub fn table_number(text: &[u8]) -> Option<u32>
 pub fn counter_number(text: &[u8]) -> Option<u32>
     ensures { result ≡ value_of_counter text.now }
 {
-    if text.is_empty() {
-        return None;
-    }
-    if text[0] == b'i' {
-        small(&text[1..])
-    } else {
-        None
-    }
+    number_behind(b'i', text)
 }

@@ -3,7 +3,7 @@
 ghost use Rattle.std.specs.Prelude.{◌≡◌, ◌<◌, ◌≤◌, ◌+◌, ◌*◌, ℕ, ◌||◌, ◌&&◌, OnOk, IfOk, [], ◌∷◌, ◌-◌, nat_lt, codes};
 ghost use Rattle.c_text.specs.Stream.{Gives, is_ahead};
 ghost use Rattle.c_text.specs.Parser.{stream, left};
-ghost use Rattle.c_text.specs.Statements.{set_at, pair_at, copy_at, abs_at, inverse_at, triple_at, add_at, sub_at, mul_at, step_call_at, test_at, table_used_at, load_at, call_at, own_counter_at, turns_at, header_at, line_ahead as line_of_next, loop_by, line_at, body_at, call_line_at, inside as inside_of, capped, is_call as is_call_ahead, is_statement as is_statement_ahead};
+ghost use Rattle.c_text.specs.Statements.{set_at, pair_at, inverse_at, triple_at, step_call_at, test_at, table_used_at, load_at, call_at, own_counter_at, turns_at, header_at, line_ahead as line_of_next, loop_by, line_at, body_at, call_line_at, inside as inside_of, capped, is_call as is_call_ahead, is_statement as is_statement_ahead};
 
 use crate::number::{counter_number, table_number};
 use crate::parser::{Parser, syntax};
@@ -96,28 +96,6 @@ impl<'a> Parser<'a> {
         Ok((to, arg))
     }
 
-    #[tactic(auto, unfolding(crate::specs::Statements::copy_at))]
-    fn copy(&mut self, scope: &Scope) -> Result<CStmt, ReadFault>
-        requires { scope.now.depth ≤ 4 }
-        ensures read { Gives (λ x. x) result (stream self.new) (copy_at scope.now (stream self.old)) }
-        ensures shorter { OnOk result (left self.new < left self.old) }
-    {
-        let (to, arg) = self.pair(b"fr_copy", scope)?;
-        self.expect_all(&[b")", b";"])?;
-        Ok(CStmt::Copy { to, arg })
-    }
-
-    #[tactic(auto, unfolding(crate::specs::Statements::abs_at))]
-    fn abs(&mut self, scope: &Scope) -> Result<CStmt, ReadFault>
-        requires { scope.now.depth ≤ 4 }
-        ensures read { Gives (λ x. x) result (stream self.new) (abs_at scope.now (stream self.old)) }
-        ensures shorter { OnOk result (left self.new < left self.old) }
-    {
-        let (to, arg) = self.pair(b"fr_abs", scope)?;
-        self.expect_all(&[b")", b";"])?;
-        Ok(CStmt::Abs { to, arg })
-    }
-
     #[tactic(auto, unfolding(crate::specs::Statements::inverse_at))]
     fn inverse(&mut self, scope: &Scope) -> Result<CStmt, ReadFault>
         requires { scope.now.depth ≤ 4 }
@@ -143,51 +121,24 @@ impl<'a> Parser<'a> {
         Ok((to, left, right))
     }
 
-    #[tactic(auto, unfolding(crate::specs::Statements::add_at))]
-    fn add(&mut self, scope: &Scope) -> Result<CStmt, ReadFault>
-        requires { scope.now.depth ≤ 4 }
-        ensures read { Gives (λ x. x) result (stream self.new) (add_at scope.now (stream self.old)) }
-        ensures shorter { OnOk result (left self.new < left self.old) }
-    {
-        let (to, left, right) = self.triple(b"fr_add", scope)?;
-        Ok(CStmt::Add { to, left, right })
-    }
-
-    #[tactic(auto, unfolding(crate::specs::Statements::sub_at))]
-    fn sub(&mut self, scope: &Scope) -> Result<CStmt, ReadFault>
-        requires { scope.now.depth ≤ 4 }
-        ensures read { Gives (λ x. x) result (stream self.new) (sub_at scope.now (stream self.old)) }
-        ensures shorter { OnOk result (left self.new < left self.old) }
-    {
-        let (to, left, right) = self.triple(b"fr_sub", scope)?;
-        Ok(CStmt::Sub { to, left, right })
-    }
-
-    #[tactic(auto, unfolding(crate::specs::Statements::mul_at))]
-    fn mul(&mut self, scope: &Scope) -> Result<CStmt, ReadFault>
-        requires { scope.now.depth ≤ 4 }
-        ensures read { Gives (λ x. x) result (stream self.new) (mul_at scope.now (stream self.old)) }
-        ensures shorter { OnOk result (left self.new < left self.old) }
-    {
-        let (to, left, right) = self.triple(b"fr_mul", scope)?;
-        Ok(CStmt::Mul { to, left, right })
-    }
-
     // A call that may end the run, behind `if (`.
-    #[tactic(auto, unfolding(crate::specs::Statements::step_call_at))]
+    #[tactic(auto, unfolding(crate::specs::Statements::step_call_at, crate::specs::Statements::add_at, crate::specs::Statements::sub_at, crate::specs::Statements::mul_at))]
     fn step_call(&mut self, scope: &Scope) -> Result<CStmt, ReadFault>
         requires { scope.now.depth ≤ 4 }
         ensures read { Gives (λ x. x) result (stream self.new) (step_call_at scope.now (stream self.old)) }
         ensures shorter { OnOk result (left self.new < left self.old) }
     {
         if self.next_is(b"fr_add") {
-            return self.add(scope);
+            let (to, left, right) = self.triple(b"fr_add", scope)?;
+            return Ok(CStmt::Add { to, left, right });
         }
         if self.next_is(b"fr_sub") {
-            return self.sub(scope);
+            let (to, left, right) = self.triple(b"fr_sub", scope)?;
+            return Ok(CStmt::Sub { to, left, right });
         }
         if self.next_is(b"fr_mul") {
-            return self.mul(scope);
+            let (to, left, right) = self.triple(b"fr_mul", scope)?;
+            return Ok(CStmt::Mul { to, left, right });
         }
         self.inverse(scope)
     }
@@ -238,7 +189,7 @@ impl<'a> Parser<'a> {
         Ok(CStmt::Load { to, table, at })
     }
 
-    #[tactic(auto, unfolding(crate::specs::Statements::call_at))]
+    #[tactic(auto, unfolding(crate::specs::Statements::call_at, crate::specs::Statements::copy_at, crate::specs::Statements::abs_at))]
     fn call(&mut self, scope: &Scope, tables: &[Items<Ratio>]) -> Result<CStmt, ReadFault>
         requires { scope.now.depth ≤ 4 }
         ensures read { Gives (λ x. x) result (stream self.new) (call_at scope.now tables.now (stream self.old)) }
@@ -248,10 +199,14 @@ impl<'a> Parser<'a> {
             return self.set(scope);
         }
         if self.next_is(b"fr_copy") {
-            return self.copy(scope);
+            let (to, arg) = self.pair(b"fr_copy", scope)?;
+            self.expect_all(&[b")", b";"])?;
+            return Ok(CStmt::Copy { to, arg });
         }
         if self.next_is(b"fr_abs") {
-            return self.abs(scope);
+            let (to, arg) = self.pair(b"fr_abs", scope)?;
+            self.expect_all(&[b")", b";"])?;
+            return Ok(CStmt::Abs { to, arg });
         }
         if self.next_is(b"fr_load") {
             return self.load(scope, tables);

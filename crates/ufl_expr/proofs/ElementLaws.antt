@@ -1,5 +1,5 @@
 -- Tables of elements: equal spaces, numbers, and the element that is added
-use Rattle.std.proofs.Common.{◌≡◌, ℕ, suc, ◌-◌, ◌<◌, ◌≤◌, Bool, true, false, true≢false, if◌then◌else◌, List, [], ◌∷◌, ◌++◌, length, Option, None, Some, slice_get, refl, sym, ap, ap₂, ◌∙◌, subst, length-append, arith}
+use Rattle.std.proofs.Common.{◌≡◌, ℕ, suc, ◌+◌, ◌-◌, ◌<◌, ◌≤◌, Bool, true, false, true≢false, if◌then◌else◌, List, [], ◌∷◌, ◌++◌, length, Option, None, Some, slice_get, refl, sym, ap, ap₂, ◌∙◌, subst, length-append, arith}
 use Rattle.std.proofs.lemmas.List.{map-append, length-map}
 use Rattle.std.proofs.lemmas.Option.{slice_get_within}
 use Rattle.spaces.specs.declared.element_tree.ElementTree.{ElementTree}
@@ -129,3 +129,22 @@ added_new es us e k h n = ap (λ x. slice_get (table_of x) k) h ∙ added_at es 
 
 pub longer_new : (e : ElementTree) (es zs us : List ElementTree) → us ≡ es ++ e ∷ [] → es ≡ zs → number_of (space_of e) (table_of zs) ≡ None → us ≡ with_element e zs
 longer_new e es zs us h same none = h ∙ ap (λ x. x ++ e ∷ []) same ∙ longer_table e zs none
+
+-- ---- the number of the last element
+later_choice : (b : Bool) (n k : ℕ) (s : Space) (ts us : Table) → (if b then Some n else number_from (suc n) s ts) ≡ None
+    → (number_from (suc n) s ts ≡ None → number_from (suc n) s us ≡ Some k) → (if b then Some n else number_from (suc n) s us) ≡ Some k
+later_choice true n k s ts us h rest = cc
+later_choice false n k s ts us h rest = rest h
+
+number_behind : (n k : ℕ) (s : Space) (ts : Table) → k ≡ n + length ts → number_from n s ts ≡ None → number_from n s (ts ++ s ∷ []) ≡ Some k
+number_behind n k s [] e h =
+    let m : n ≡ k = omega arith in
+    ap (λ b. if b then Some n else None) ((spaces_equal s s).1 refl) ∙ ap (λ x. Some x) m
+number_behind n k s (t ∷ ts) e h = later_choice (same_space t s) n k s ts (ts ++ s ∷ []) h (number_behind (suc n) k s ts (omega arith))
+
+pub new_number : (e : ElementTree) (es zs us : List ElementTree) (k : ℕ) → us ≡ es ++ e ∷ [] → es ≡ zs → k ≡ length es
+    → number_of (space_of e) (table_of zs) ≡ None → number_of (space_of e) (table_of us) ≡ Some k
+new_number e es zs us k h same n none =
+    let m : length (table_of es) ≡ length es = length-map es space_of in
+    ap (λ x. number_of (space_of e) (table_of x)) h ∙ ap (number_of (space_of e)) (map-append space_of es (e ∷ []))
+    ∙ number_behind 0 k (space_of e) (table_of es) (omega arith) (ap (λ x. number_of (space_of e) (table_of x)) same ∙ none)

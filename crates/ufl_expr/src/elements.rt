@@ -142,6 +142,7 @@ impl Elements {
     pub fn add(&mut self, element: Element) -> Result<u16, AllocError>
         requires { length self.old < 65536 }
         ensures number { IfOk result (λ k. slice_get (table_of self.new) k ≡ Some (space_of element)) }
+        ensures numbered { IfOk result (λ k. number_of (space_of element) (table_of self.new) ≡ Some k) }
         ensures table { OnOk result (self.new ≡ with_element element self.old) }
         ensures err { OnErr result (self.new ≡ self.old) }
     {

@@ -1,13 +1,13 @@
 -- Chains of both levels
-use Rattle.std.proofs.Common.{[], ◌∷◌, ◌++◌, ◌≡◌, ◌<◌, true, false, List, ℕ, refl}
+use Rattle.std.proofs.Common.{[], ◌∷◌, ◌++◌, ◌≡◌, ◌<◌, ◌≤◌, true, false, List, ℕ, refl}
 use Rattle.ufl_syntax.specs.declared.class.Class.{Class}
 use Rattle.ufl_syntax.specs.declared.class.Lexeme.{Lexeme}
 use Rattle.ufl_syntax.specs.declared.tree.Next.{Next}
 use Rattle.ufl_syntax.specs.declared.tree.Syn.{Syn}
-use Rattle.ufl_syntax.specs.Grammar.{Adds, Muls, chain, next}
-use Rattle.ufl_syntax.specs.Machine.{Part, adds, muls, may_be_empty, part_on, run, skips, takes}
+use Rattle.ufl_syntax.specs.Grammar.{Adds, no_add, Muls, no_mul, sum, term, chain, next}
+use Rattle.ufl_syntax.specs.Machine.{Part, may_be_empty, part_on, run, skips, takes}
 use Rattle.ufl_syntax.proofs.Complete.{add_on, mul_on, sum_begins, term_begins}
-use Rattle.ufl_read.specs.Levels.{IsChain, IsOperand, a_chain, an_operand, is_joining}
+use Rattle.ufl_read.specs.Levels.{IsChain, IsOperand, a_chain, an_operand, is_joining, joined}
 use Rattle.ufl_read.specs.Reads.{Moves}
 use Rattle.ufl_read.specs.declared.values.Level.{Level}
 use Rattle.ufl_read.specs.declared.values.Level.TheVariants as l
@@ -18,18 +18,22 @@ abbrev pub Joined : Level → ℕ → List Lexeme → List Next → List Lexeme 
 Joined l.Sum n ts ns rest = Adds n ts ns rest
 Joined l.Term n ts ns rest = Muls n ts ns rest
 
-abbrev pub joined : Level → ℕ → Part
-joined l.Sum n = adds n
-joined l.Term n = muls n
-
 -- how much less room the parts of a level need
 abbrev pub step : Level → ℕ
-step l.Sum = 6
-step l.Term = 3
+step l.Sum = 8
+step l.Term = 4
 
 pub joined_empty : (v : Level) (n : ℕ) → may_be_empty (joined v n) ≡ true
 joined_empty l.Sum n = refl
 joined_empty l.Term n = refl
+
+pub joined_moved : (v : Level) (n a b : ℕ) → Moves (may_be_empty (joined v n)) a b → a ≤ b
+joined_moved l.Sum n a b h = h
+joined_moved l.Term n a b h = h
+
+pub joined_moves : (v : Level) (n a b : ℕ) → a ≤ b → Moves (may_be_empty (joined v n)) a b
+joined_moves l.Sum n a b h = h
+joined_moves l.Term n a b h = h
 
 pub operand_moved : (v : Level) (n a b : ℕ) → Moves (may_be_empty (an_operand v n)) a b → a < b
 operand_moved l.Sum n a b h = h
@@ -60,3 +64,8 @@ pub joined_at : (v : Level) (n : ℕ) (start ts us mid rest : List Lexeme) (op :
     → IsOperand v n us e mid → Joined v n mid ns rest → (Joined v n ts (next op e ∷ ns) rest → Joined v n start (old ++ next op e ∷ ns) rest) → Joined v n start (new ++ ns) rest
 joined_at l.Sum = added_at
 joined_at l.Term = multiplied_at
+
+-- one operand
+pub chain_alone : (v : Level) (n : ℕ) (ts rest : List Lexeme) (e : Syn) → IsOperand v n ts e rest → IsChain v n ts e rest
+chain_alone l.Sum n ts rest e a = sum a no_add
+chain_alone l.Term n ts rest e a = term a no_mul

@@ -1,5 +1,5 @@
 -- One turn of the machine at a place in the tokens.
-use Rattle.std.proofs.Common.{[], ◌∷◌, ◌++◌, ◌≡◌, true, false, Bool, drop, List, ℕ, zero, suc, refl, sym, ap, subst, ◌∙◌, append_assoc, append-nil, Some, ◌+◌, arith}
+use Rattle.std.proofs.Common.{[], ◌∷◌, ◌++◌, ◌≡◌, true, false, Bool, drop, List, ℕ, zero, suc, refl, sym, ap, subst, ◌∙◌, append_assoc, append-nil, Some, ◌+◌, arith, Result, Ok, Err}
 use Rattle.ufl_syntax.specs.declared.class.Class.{Class}
 use Rattle.ufl_syntax.specs.declared.class.Class.TheVariants as k
 use Rattle.ufl_syntax.specs.declared.class.Lexeme.{Lexeme}
@@ -15,7 +15,7 @@ use Rattle.ufl_syntax.specs.Machine.{Part, takes, skips, wrong, deep, part_on, a
 use Rattle.ufl_syntax.proofs.Steps.{run_begins, moves_term, run_takes, run_skips, run_may, run_short, run_wrong, run_deep}
 use Rattle.ufl_read.specs.declared.tokens.Fault.{Fault}
 use Rattle.ufl_read.specs.declared.tokens.Fault.TheVariants as f
-use Rattle.ufl_read.specs.Reads.{Fails, EndsTerm, ends_term, unnamed_fault}
+use Rattle.ufl_read.specs.Reads.{Fails, Moves, Reads, EndsTerm, ends_term, unnamed_fault}
 
 pub short_at : (q : Part) (stack : List Part) (ts : List Lexeme) → ts ≡ [] → may_be_empty q ≡ false → run (q ∷ stack) ts ≡ ended false
 short_at q stack ts e h = ap (run (q ∷ stack)) e ∙ run_short q stack h
@@ -40,6 +40,15 @@ sunk all e at o h d = subst (λ x. Fails all x o) (sym h) d
 
 pub along : (all : List Lexeme) (e : Fault) (o p : Outcome) → o ≡ p → Fails all e p → Fails all e o
 along all e o p h d = subst (Fails all e) (sym h) d
+
+-- a part whose beginning is read, as the function for what follows it answers
+pub goes_on : (IsFirst IsWhole : List Lexeme → Syn → List Lexeme → Type 0) (part more : Part) (all : List Lexeme) (at past : ℕ) (e : Syn) (r : Result (Syn × ℕ) Fault)
+    → ((end : ℕ) → Moves (may_be_empty more) past end → Moves (may_be_empty part) at end) → IsFirst (drop at all) e (drop past all)
+    → ((stack : List Part) → run (part ∷ stack) (drop at all) ≡ run (more ∷ stack) (drop past all))
+    → Reads (λ x ts rest. (start : List Lexeme) → IsFirst start e ts → IsWhole start x.0 rest) (λ x. x.1) more all past r
+    → Reads (λ x ts rest. IsWhole ts x.0 rest) (λ x. x.1) part all at r
+goes_on IsFirst IsWhole part more all at past e (Ok x) moves first begins h = (moves x.1 h.0, h.1 (drop at all) first, λ stack. begins stack ∙ h.2 stack)
+goes_on IsFirst IsWhole part more all at past e (Err fault) moves first begins h = λ stack. along all fault _ _ (begins stack) (h stack)
 
 pub comma_not : (q : Part) (j : Class) → same k.Comma j ≡ false → comma_on q j ≡ skips
 comma_not q k.Comma h = cc

@@ -4,7 +4,7 @@ use Rattle.ufl_syntax.specs.declared.class.Class.{Class}
 use Rattle.ufl_syntax.specs.declared.class.Lexeme.{Lexeme}
 use Rattle.ufl_syntax.specs.declared.tree.Syn.{Syn}
 use Rattle.ufl_syntax.specs.Grammar as g
-use Rattle.ufl_syntax.specs.Machine.{Part, a_sum, a_term, a_signed}
+use Rattle.ufl_syntax.specs.Machine.{Part, a_sum, adds, a_term, muls, a_signed}
 use Rattle.ufl_read.specs.declared.values.Level.{Level}
 use Rattle.ufl_read.specs.declared.values.Level.TheVariants as l
 
@@ -29,3 +29,8 @@ IsChain l.Term n ts e rest = g.Term n ts e rest
 abbrev pub a_chain : Level → ℕ → Part
 a_chain l.Sum n = a_sum n
 a_chain l.Term n = a_term n
+
+-- the operators that are still to come, with what they join
+abbrev pub joined : Level → ℕ → Part
+joined l.Sum n = adds n
+joined l.Term n = muls n

@@ -1,5 +1,5 @@
 -- What a function of the reader answers.
-use Rattle.std.specs.Prelude.{◌≡◌, ◌≤◌, ◌<◌, ℕ, zero, suc, Bool, true, false, List, [], ◌∷◌, ◌++◌, take, drop, Option, Some, None, Result, Ok, Err}
+use Rattle.std.specs.Prelude.{◌≡◌, ◌≤◌, ◌<◌, ◌+◌, ℕ, zero, suc, Bool, true, false, List, [], ◌∷◌, ◌++◌, length, take, drop, Option, Some, None, Result, Ok, Err}
 use Rattle.ufl_syntax.specs.declared.class.Class.{Class}
 use Rattle.ufl_syntax.specs.declared.class.Class.TheVariants as k
 use Rattle.ufl_syntax.specs.declared.class.Lexeme.{Lexeme}
@@ -11,6 +11,10 @@ use Rattle.ufl_syntax.specs.Refusal.{IsRefused, IsWrong, IsTooDeep, EndsEarly}
 use Rattle.ufl_syntax.specs.Machine.{Part, Outcome, ended, stopped, sank, run, may_be_empty, a_value, a_word, after_target, token}
 use Rattle.ufl_read.specs.declared.tokens.Fault.{Fault}
 use Rattle.ufl_read.specs.declared.tokens.Fault.TheVariants as f
+
+-- this token stands at the place
+abbrev pub IsAt : List Lexeme → ℕ → Lexeme → Type 0
+IsAt all at t = (drop at all ≡ t ∷ drop (at + 1) all) × (at < length all)
 
 -- why nothing was read
 abbrev pub Fails : List Lexeme → Fault → Outcome → Type 0

@@ -1,9 +1,9 @@
 // Looking at tokens, and why nothing can be read from them.
 
-ghost use Rattle.std.specs.Prelude.{[], ◌∷◌, ◌≡◌, ◌+◌, ◌<◌, length, drop, true, MatchOption};
+ghost use Rattle.std.specs.Prelude.{[], ◌∷◌, ◌≡◌, drop, true, MatchOption};
 ghost use Rattle.ufl_syntax.specs.Grammar.{is_sign, is_factor};
 ghost use Rattle.ufl_syntax.specs.Machine.{both_are, is_first, is_post, same as same_class, token, a_word};
-ghost use Rattle.ufl_read.specs.Reads.{Reads, Room, IsWord, ends_term as is_end_of_term, unnamed_fault};
+ghost use Rattle.ufl_read.specs.Reads.{IsAt, Reads, Room, IsWord, ends_term as is_end_of_term, unnamed_fault};
 
 use std::alloc::AllocError;
 use ufl_syntax::{Class, Lexeme};
@@ -102,8 +102,7 @@ pub fn same(wanted: Class, class: Class) -> bool
 }
 
 pub fn peek(tokens: &[Lexeme], at: usize) -> Option<Lexeme>
-    ensures { MatchOption result (drop at tokens.now ≡ []) (λ t. (drop at tokens.now ≡ t ∷ drop (at + 1) tokens.now)
-        × (at < length tokens.now)) }
+    ensures { MatchOption result (drop at tokens.now ≡ []) (IsAt tokens.now at) }
 {
     tokens.get(at).copied()
 }

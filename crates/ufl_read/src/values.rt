@@ -2,12 +2,13 @@
 // `room` is how many brackets, signs and `**` may still be open inside.
 
 ghost use Rattle.std.specs.Prelude.{[], ◌∷◌, ◌++◌, ◌≡◌, ◌+◌, ◌<◌, ℕ, List, true, drop, length, IfOk, IfSome};
-ghost use Rattle.ufl_syntax.specs.Grammar.{Value, Later, Sum, Term, Signed, Postfix, OnePost, Args, OneArg, Atom};
+ghost use Rattle.ufl_syntax.specs.Grammar.{is_sign, Value, Later, Sum, Term, Signed, Postfix, OnePost, Args, OneArg, Atom};
 ghost use Rattle.ufl_syntax.specs.Grammar.{chain as as_chain, applied as as_applied};
-ghost use Rattle.ufl_syntax.specs.Machine.{a_value, a_later, a_sum, a_term, a_signed, a_postfix, an_atom, a_post, args, an_arg};
+ghost use Rattle.ufl_syntax.specs.Machine.{a_value, a_later, a_sum, a_term, a_signed, a_power, a_postfix, an_atom, posts, a_post, args, an_arg};
 ghost use Rattle.ufl_syntax.specs.declared.tree.Syn.{Syn};
-ghost use Rattle.ufl_read.specs.Levels.{IsChain, IsOperand, a_chain, an_operand, is_joining};
-ghost use Rattle.ufl_read.specs.Reads.{Reads, EndsTerm};
+ghost use Rattle.ufl_read.specs.Levels.{IsChain, IsOperand, a_chain, an_operand, is_joining, joined};
+ghost use Rattle.ufl_read.specs.Reads.{IsAt, Reads, EndsTerm};
+ghost use Rattle.ufl_syntax.specs.declared.class.Lexeme.{Lexeme};
 
 use crate::lists::add;
 use crate::tokens::{
@@ -178,6 +179,7 @@ fn operand(
     }
 }
 
+// Most chains are one operand; these are read without room for more.
 #[cycle(reader)]
 fn chain(
     alloc: Global,
@@ -190,7 +192,30 @@ fn chain(
         tokens.now from result }
 {
     let (first, past) = operand(alloc, tokens, from, room, level)?;
-    let mut at = past;
+    let Some(op) = peek(tokens, past) else {
+        return Ok((first, past));
+    };
+    if !joins(level, op.class) {
+        return Ok((first, past));
+    }
+    chain_from(alloc, tokens, first, past, room, level)
+}
+
+// The chain of this operand and those that follow.
+#[cycle(reader)]
+#[inline(never)]
+fn chain_from(
+    alloc: Global,
+    tokens: &[Lexeme],
+    first: Syn,
+    from: usize,
+    room: u32,
+    level: Level,
+) -> Result<(Syn, usize), Fault>
+    ensures { Reads (λ r ts rest. (start : List Lexeme) → IsOperand level room start first ts
+        → IsChain level room start r.0 rest) (λ r. r.1) (joined level room) tokens.now from result }
+{
+    let mut at = from;
     let mut chain = Items::new(alloc);
     'all: loop {
         let Some(op) = peek(tokens, at) else {
@@ -214,9 +239,7 @@ fn signed(alloc: Global, tokens: &[Lexeme], at: usize, room: u32) -> Result<(Syn
         return Err(Fault::Short);
     };
     if signs(first.class) {
-        let inside = deeper(room, at)?;
-        let (inner, end) = signed(alloc, tokens, at + 1, inside)?;
-        return Ok((Syn::Sign(first.span, Boxed::new(alloc, inner)?), end));
+        return sign_of(alloc, tokens, first, at, room);
     }
     let (base, past) = postfix(alloc, tokens, at, room)?;
     let Some(op) = peek(tokens, past) else {
@@ -225,8 +248,46 @@ fn signed(alloc: Global, tokens: &[Lexeme], at: usize, room: u32) -> Result<(Syn
     if !same(Class::Power, op.class) {
         return Ok((base, past));
     }
-    let inside = deeper(room, past)?;
-    let (right, end) = signed(alloc, tokens, past + 1, inside)?;
+    power_of(alloc, tokens, base, op, past, room)
+}
+
+// The sign at a place and its operand.
+#[cycle(reader)]
+#[inline(never)]
+fn sign_of(
+    alloc: Global,
+    tokens: &[Lexeme],
+    sign: Lexeme,
+    at: usize,
+    room: u32,
+) -> Result<(Syn, usize), Fault>
+    requires here { IsAt tokens.now at sign }
+    requires signs { is_sign sign.class ≡ true }
+    ensures { Reads (λ r ts rest. Signed room ts r.0 rest) (λ r. r.1) (a_signed room) tokens.now at result }
+{
+    let inside = deeper(room, at)?;
+    let (inner, end) = signed(alloc, tokens, at + 1, inside)?;
+    Ok((Syn::Sign(sign.span, Boxed::new(alloc, inner)?), end))
+}
+
+// The power of this base, whose `**` is at a place.
+#[cycle(reader)]
+#[inline(never)]
+fn power_of(
+    alloc: Global,
+    tokens: &[Lexeme],
+    base: Syn,
+    op: Lexeme,
+    at: usize,
+    room: u32,
+) -> Result<(Syn, usize), Fault>
+    requires here { IsAt tokens.now at op }
+    requires power { op.class ≡ Class.Power }
+    ensures { Reads (λ r ts rest. (start : List Lexeme) → Postfix room start base ts
+        → Signed room start r.0 rest) (λ r. r.1) (a_power room) tokens.now at result }
+{
+    let inside = deeper(room, at)?;
+    let (right, end) = signed(alloc, tokens, at + 1, inside)?;
     let mut chain = Items::new(alloc);
     add(alloc, &mut chain, Next { op: op.span, right })?;
     Ok((Syn::Binary(Boxed::new(alloc, base)?, chain), end))
@@ -237,7 +298,29 @@ fn postfix(alloc: Global, tokens: &[Lexeme], from: usize, room: u32) -> Result<(
     ensures { Reads (λ r ts rest. Postfix room ts r.0 rest) (λ r. r.1) (a_postfix room) tokens.now from result }
 {
     let (first, past) = atom(alloc, tokens, from, room)?;
-    let mut at = past;
+    let Some(next) = peek(tokens, past) else {
+        return Ok((first, past));
+    };
+    if !follows(next.class) {
+        return Ok((first, past));
+    }
+    postfix_from(alloc, tokens, first, past, room)
+}
+
+// This value with what stands behind it.
+#[cycle(reader)]
+#[inline(never)]
+fn postfix_from(
+    alloc: Global,
+    tokens: &[Lexeme],
+    first: Syn,
+    from: usize,
+    room: u32,
+) -> Result<(Syn, usize), Fault>
+    ensures { Reads (λ r ts rest. (start : List Lexeme) → Atom room start first ts
+        → Postfix room start r.0 rest) (λ r. r.1) (posts room) tokens.now from result }
+{
+    let mut at = from;
     let mut all = Items::new(alloc);
     'all: loop {
         let Some(next) = peek(tokens, at) else {
@@ -349,13 +432,28 @@ fn atom(alloc: Global, tokens: &[Lexeme], at: usize, room: u32) -> Result<(Syn, 
             let (_close, end) = expect(tokens, past, Class::Close)?;
             Ok((inner, end))
         }
-        Class::OpenList => {
-            let inside = deeper(room, at)?;
-            let before = Items::new(alloc);
-            let (items, past) = later(alloc, tokens, at + 1, inside, before)?;
-            let (_close, end) = expect(tokens, past, Class::CloseList)?;
-            Ok((Syn::List(first.span, items), end))
-        }
+        Class::OpenList => list_of(alloc, tokens, first, at, room),
         _ => Err(Fault::Wrong(at)),
     }
+}
+
+// The list whose bracket is at a place.
+#[cycle(reader)]
+#[inline(never)]
+fn list_of(
+    alloc: Global,
+    tokens: &[Lexeme],
+    bracket: Lexeme,
+    at: usize,
+    room: u32,
+) -> Result<(Syn, usize), Fault>
+    requires here { IsAt tokens.now at bracket }
+    requires opens { bracket.class ≡ Class.OpenList }
+    ensures { Reads (λ r ts rest. Atom room ts r.0 rest) (λ r. r.1) (an_atom room) tokens.now at result }
+{
+    let inside = deeper(room, at)?;
+    let before = Items::new(alloc);
+    let (items, past) = later(alloc, tokens, at + 1, inside, before)?;
+    let (_close, end) = expect(tokens, past, Class::CloseList)?;
+    Ok((Syn::List(bracket.span, items), end))
 }

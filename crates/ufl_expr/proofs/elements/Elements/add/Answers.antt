@@ -1,7 +1,7 @@
 use Rattle.std.proofs.Common.{◌∙◌, arith}
 use Rattle.spaces.specs.Reading.{space_of}
 use Rattle.ufl_tree.specs.Places.{table_of}
-use Rattle.ufl_expr.proofs.ElementLaws.{found_at, found_within, kept_table, number_moved, added_new, longer_new, distinct_added, one_more}
+use Rattle.ufl_expr.proofs.ElementLaws.{found_at, found_within, kept_table, number_moved, added_new, longer_new, new_number, distinct_added, one_more}
 use Rattle.ufl_expr.proofs.elements.Elements.add.Goals as goal
 
 pub overflow_cast-result : goal.overflow_cast-result
@@ -13,6 +13,10 @@ pub returns-in-Some-clause-number : goal.returns-in-Some-clause-number
 returns-in-Some-clause-number c =
     let h = number_moved c.tree.result.now c.args.element c.as_slice.result.now c.args.self.now _ c.tree.ensures.same (c.as_slice.ensures ∙ c.self.view_is) c.in-Some.ensures in
     found_at c.in-Some.number (space_of c.args.element) (table_of c.args.self.now) h
+
+pub returns-in-Some-clause-numbered : goal.returns-in-Some-clause-numbered
+returns-in-Some-clause-numbered c =
+    number_moved c.tree.result.now c.args.element c.as_slice.result.now c.args.self.now _ c.tree.ensures.same (c.as_slice.ensures ∙ c.self.view_is) c.in-Some.ensures
 
 pub returns-in-Some-clause-table : goal.returns-in-Some-clause-table
 returns-in-Some-clause-table c =
@@ -29,6 +33,11 @@ invariant_of-self-in-None c =
 
 pub returns-in_ok-push-in-None-clause-number : goal.returns-in_ok-push-in-None-clause-number
 returns-in_ok-push-in-None-clause-number c = added_new c.self.inside.items c.push.new.self c.args.element c.len-number.result c.in_ok-push-in-None.ensures.ok c.len-number.ensures
+
+pub returns-in_ok-push-in-None-clause-numbered : goal.returns-in_ok-push-in-None-clause-numbered
+returns-in_ok-push-in-None-clause-numbered c =
+    let h = number_moved c.tree.result.now c.args.element c.as_slice.result.now c.args.self.now _ c.tree.ensures.same (c.as_slice.ensures ∙ c.self.view_is) c.in-None.ensures in
+    new_number c.args.element c.self.inside.items c.args.self.now c.push.new.self c.len-number.result c.in_ok-push-in-None.ensures.ok c.self.view_is c.len-number.ensures h
 
 pub returns-in_ok-push-in-None-clause-table : goal.returns-in_ok-push-in-None-clause-table
 returns-in_ok-push-in-None-clause-table c =
