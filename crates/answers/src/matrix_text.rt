@@ -7,7 +7,7 @@ ghost use Rattle.assembly.specs.LentRows.{lent_entries};
 ghost use Rattle.answers.specs.MatrixText.{entry_line, header_line, GainsMatrix, SumRefusal};
 
 use assembly::Triple;
-use assembly::by_rows::{Rows, RunRefusal};
+use assembly::{Rows, RunRefusal};
 use itoa::Buffer;
 use std::alloc::AllocError;
 

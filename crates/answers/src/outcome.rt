@@ -3,7 +3,7 @@ ghost use Rattle.std.specs.Prelude.{◌≡◌};
 ghost use Rattle.answers.specs.Outcome.{status_of};
 ghost use Rattle.answers.specs.declared.outcome.Outcome.TheVariants.{Memory, Mesh};
 
-use assembly::by_rows::RunRefusal;
+use assembly::RunRefusal;
 use mesh_in::{MeshKind, MeshRefusal};
 use std::alloc::AllocError;
 

@@ -1,9 +1,6 @@
 pub mod Places
 pub mod AddsLaws
-pub mod RowsLaws
-pub mod CellLaws
 pub mod SumsLaws
-pub mod MatrixLaws
 pub mod RowSumsLaws
 pub mod PlacedLaws
 pub mod StoredLaws

@@ -17,8 +17,7 @@ use Rattle.algebra.specs.Fraction.{Pair, Same, Fraction, zero_fraction, is_zero_
 use Rattle.ratio.specs.Value.{fraction_of, valued}
 use Rattle.ratio.specs.declared.reduced.Ratio.{Ratio}
 use Rattle.assembly.specs.Sums.{Entry, values_at, added, entry_at, IsBefore, AreOrdered, AreSums, PassesFirst}
-use Rattle.assembly.specs.Kept.{place, place_cmp, resumed, nonzeros, with_entry, first_passed}
-use Rattle.assembly.specs.declared.sums.Place.{Place}
+use Rattle.assembly.specs.Kept.{Place, place, place_cmp, resumed, nonzeros, with_entry, first_passed}
 use Rattle.assembly.proofs.Places.{place_is_at}
 
 abbrev pub Kept : Type 0

@@ -1,6 +1,5 @@
 pub mod Sums
 pub mod Kept
-pub mod Rows
 pub mod Local
 pub mod Run
 pub mod Assembly

@@ -1,9 +1,7 @@
 -- The values of a cell as entries of the matrix
-use Rattle.std.specs.Prelude.{◌≡◌, ℕ, List, [], ◌∷◌, ◌++◌, length, take, drop}
+use Rattle.std.specs.Prelude.{ℕ, List, [], ◌∷◌, ◌++◌, length, take, drop}
 use Rattle.algebra.specs.Fraction.{Fraction}
-use Rattle.assembly.specs.Sums.{Entry, values_at}
-use Rattle.assembly.specs.Kept.{kept_at, resumed}
-use Rattle.assembly.specs.declared.sums.Sums.{Sums}
+use Rattle.assembly.specs.Sums.{Entry}
 
 -- a value for each column
 abbrev pub row_entries : ℕ → List ℕ → List Fraction → List Entry
@@ -15,7 +13,3 @@ row_entries row (col ∷ cols) (x ∷ xs) = record { row = row; col = col; value
 abbrev pub local_entries : List ℕ → List ℕ → List Fraction → List Entry
 local_entries [] cols xs = []
 local_entries (row ∷ rows) cols xs = row_entries row cols (take (length cols) xs) ++ local_entries rows cols (drop (length cols) xs)
-
--- from one state of the sums to the next these entries were added, in their order
-abbrev pub Adds : List Entry → Sums → Sums → Type 0
-Adds entries old new = (row col : ℕ) (later : List Entry) → resumed (kept_at new row col) (values_at later row col) ≡ resumed (kept_at old row col) (values_at (entries ++ later) row col)

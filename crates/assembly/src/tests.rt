@@ -6,7 +6,7 @@ ghost use Rattle.spaces.specs.Space.{scalars};
 ghost use Rattle.spaces.specs.Reading.{space_of};
 ghost use Rattle.assembly.specs.Assembly.{Fits, assembly_of};
 
-use crate::by_rows::{Funs, Rows, RunRefusal, cells};
+use crate::{Funs, Rows, RunRefusal, cells};
 use c_unit::{Array, CFun, CStmt, Place, Slot};
 use dofs::{DofMap, number};
 use mesh_in::{Mesh, read_mesh};

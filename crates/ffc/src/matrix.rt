@@ -15,7 +15,7 @@ ghost use Rattle.ffc.specs.MassRows.{ArePlanned, AreLineRows, AreMassRows};
 ghost use Rattle.ffc.specs.Unit.{IsMassUnit};
 
 use answers::push_matrix;
-use assembly::by_rows::{Funs, Rows, RunRefusal};
+use assembly::{Funs, Rows, RunRefusal};
 use c_unit::CUnit;
 use dofs::{DofMap, number};
 use form_values::laws;
