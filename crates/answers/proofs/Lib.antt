@@ -1,2 +1,3 @@
+mod PushLaws
 mod SinkLaws
 mod TextLaws

@@ -1,8 +1,11 @@
 -- The text of a matrix
-use Rattle.std.specs.Prelude.{ℕ, List, [], ◌∷◌, ◌++◌, codes, decimal}
+use Rattle.std.specs.Prelude.{◌≡◌, ℕ, List, [], ◌∷◌, ◌++◌, codes, decimal}
 use Rattle.std.specs.List.{flat_map}
 use Rattle.ratio.specs.WrittenText.{text_of}
-use Rattle.assembly.specs.Sums.{Entry}
+use Rattle.assembly.specs.Sums.{Entry, AreSums, PassesFirst}
+use Rattle.assembly.specs.LentRows.{LentRows, lent_count, lent_entries}
+use Rattle.assembly.specs.declared.run_refusal.RunRefusal.{RunRefusal}
+use Rattle.assembly.specs.declared.run_refusal.RunRefusal.TheVariants as refusal
 
 -- the pieces one after the other
 abbrev pub joined : List (List ℕ) → List ℕ
@@ -19,3 +22,16 @@ header_line name rows cols = joined (codes "form " ∷ name ∷ codes " rank 2 r
 -- the header, and a line for each entry
 abbrev pub matrix_text : List ℕ → ℕ → ℕ → List Entry → List ℕ
 matrix_text name rows cols entries = header_line name rows cols ++ flat_map entry_line entries
+
+-- the sums of all rows stand behind the old text, as a matrix with so many columns
+abbrev pub GainsMatrix : List ℕ → LentRows → ℕ → List ℕ → List ℕ → Type 0
+GainsMatrix name rows cols old new =
+    (entries : List Entry) × AreSums (lent_entries rows) entries × (new ≡ old ++ matrix_text name (lent_count rows) cols entries)
+
+-- why they don't: the first entry whose values can't be added up, or no memory
+abbrev pub SumRefusal : List Entry → RunRefusal → Type 0
+SumRefusal values (refusal.SumPassed row col) = PassesFirst values row col
+SumRefusal values refusal.Memory = Unit {0}
+SumRefusal values refusal.TooManyEntries = ⊥
+SumRefusal values (refusal.Zero cell at) = ⊥
+SumRefusal values (refusal.CellPassed cell at op left right) = ⊥

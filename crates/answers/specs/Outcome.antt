@@ -3,8 +3,8 @@ use Rattle.std.specs.Prelude.{ℕ}
 use Rattle.mesh_in.specs.declared.refusal.MeshKind.{MeshKind}
 use Rattle.mesh_in.specs.declared.refusal.MeshKind.TheVariants as kind
 use Rattle.mesh_in.specs.declared.refusal.MeshRefusal.{MeshRefusal}
-use Rattle.assembly.specs.declared.refusal.RunRefusal.{RunRefusal}
-use Rattle.assembly.specs.declared.refusal.RunRefusal.TheVariants as run
+use Rattle.assembly.specs.declared.run_refusal.RunRefusal.{RunRefusal}
+use Rattle.assembly.specs.declared.run_refusal.RunRefusal.TheVariants as run
 use Rattle.answers.specs.declared.outcome.Spot.TheVariants as spot
 use Rattle.answers.specs.declared.outcome.Outcome.{Outcome}
 use Rattle.answers.specs.declared.outcome.Outcome.TheVariants.{Done, Usage, Form, Mesh, Passed, ReadFault, WriteFault, Memory}
@@ -27,12 +27,16 @@ outcome_of_kind _ r = Mesh r
 abbrev pub mesh_outcome : MeshRefusal → Outcome
 mesh_outcome r = outcome_of_kind r.kind r
 
--- the refusal of a mesh with a degenerate cell
+-- the refusals of a mesh with too many entries, and of one with a degenerate cell
+abbrev pub too_many : MeshRefusal
+too_many = record { kind = kind.TooManyEntries; line = 0; cell = 0 }
+
 abbrev pub degenerate : ℕ → MeshRefusal
 degenerate cell = record { kind = kind.Degenerate; line = 0; cell = cell }
 
 -- a refusal of the run as the outcome
 abbrev pub run_outcome : RunRefusal → Outcome
+run_outcome run.TooManyEntries = Mesh too_many
 run_outcome (run.Zero cell at) = Mesh (degenerate cell)
 run_outcome (run.CellPassed cell at op left right) = Passed (spot.Cell cell)
 run_outcome (run.SumPassed row col) = Passed (spot.Sum row col)

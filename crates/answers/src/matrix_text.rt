@@ -1,9 +1,13 @@
 //! The text of a matrix.
-ghost use Rattle.std.specs.Prelude.{◌≡◌, ◌++◌, map, decimal, OnOk};
+ghost use Rattle.std.specs.Prelude.{◌≡◌, ◌++◌, map, decimal, IfErr, OnOk};
+ghost use Rattle.std.specs.List.{flat_map};
 ghost use Rattle.assembly.specs.Kept.{seen};
-ghost use Rattle.answers.specs.MatrixText.{entry_line, header_line, matrix_text};
+ghost use Rattle.assembly.specs.Lent.{HasNoneBeyond};
+ghost use Rattle.assembly.specs.LentRows.{lent_entries};
+ghost use Rattle.answers.specs.MatrixText.{entry_line, header_line, GainsMatrix, SumRefusal};
 
 use assembly::Triple;
+use assembly::by_rows::{Rows, RunRefusal};
 use itoa::Buffer;
 use std::alloc::AllocError;
 
@@ -45,19 +49,35 @@ fn push_header(text: &mut Vec<u8>, name: &str, rows: u32, cols: u32) -> Result<(
     Ok(())
 }
 
-/// Appends the header and a line for each entry.
+// A line for each entry.
+fn push_entries(text: &mut Vec<u8>, triples: &[Triple]) -> Result<(), AllocError>
+    ensures { OnOk result (text.new.items ≡ text.old.items ++ flat_map entry_line (map seen triples.now)) }
+{
+    for triple in triples {
+        push_entry(text, triple)?;
+    }
+    Ok(())
+}
+
+/// Appends the text of the matrix whose rows are lent: the header, with as many columns as are given, and a line for each
+/// entry. Each row is written as it is lent.
+///
+/// At a refusal only a part of the text was appended.
 pub fn push_matrix(
     text: &mut Vec<u8>,
     name: &str,
-    rows: u32,
     cols: u32,
-    triples: &[Triple],
-) -> Result<(), AllocError>
-    ensures { OnOk result (text.new.items ≡ text.old.items ++ matrix_text name.now rows cols (map seen triples.now)) }
+    rows: &mut Rows<'_>,
+) -> Result<(), RunRefusal>
+    requires first { rows.old.next ≡ 0 }
+    requires within { HasNoneBeyond rows.old }
+    ensures text { OnOk result (GainsMatrix name.now rows.old cols text.old.items text.new.items) }
+    ensures refusal { IfErr result (SumRefusal (lent_entries rows.old)) }
 {
-    push_header(text, name, rows, cols)?;
-    for triple in triples {
-        push_entry(text, triple)?;
+    push_header(text, name, rows.count(), cols)?;
+    while let Some(row) = rows.next_row() {
+        row?;
+        push_entries(text, rows.entries())?;
     }
     Ok(())
 }

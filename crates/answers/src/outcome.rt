@@ -3,7 +3,7 @@ ghost use Rattle.std.specs.Prelude.{◌≡◌};
 ghost use Rattle.answers.specs.Outcome.{status_of};
 ghost use Rattle.answers.specs.declared.outcome.Outcome.TheVariants.{Memory, Mesh};
 
-use assembly::RunRefusal;
+use assembly::by_rows::RunRefusal;
 use mesh_in::{MeshKind, MeshRefusal};
 use std::alloc::AllocError;
 
@@ -96,6 +96,11 @@ impl From<RunRefusal> for Outcome {
 
     fn from(refusal: RunRefusal) -> Outcome {
         match refusal {
+            RunRefusal::TooManyEntries => Outcome::Mesh(MeshRefusal {
+                kind: MeshKind::TooManyEntries,
+                line: 0,
+                cell: 0,
+            }),
             RunRefusal::Zero { cell, .. } => Outcome::Mesh(MeshRefusal {
                 kind: MeshKind::Degenerate,
                 line: 0,

@@ -6,8 +6,11 @@ use Rattle.ends.specs.Held.{Held, bytes_of}
 use Rattle.mesh_in.specs.MeshData.{MeshData}
 use Rattle.mesh_in.specs.MeshText.{meaning}
 use Rattle.mesh_in.specs.declared.refusal.MeshRefusal.{MeshRefusal}
-use Rattle.form_values.specs.Shares.{HasMatrix}
-use Rattle.form_values.proofs.ShareLaws.{only_memory}
+use Rattle.ratio.specs.declared.reduced.Ratio.{Ratio}
+use Rattle.ratio.specs.Value.{fraction_of}
+use Rattle.ratio.proofs.Equality.{same_ratio}
+use Rattle.form_values.specs.MassMatrix.{HasMatrix}
+use Rattle.form_values.proofs.MassRunLaws.{only_memory}
 use Rattle.ffc.specs.FormFile.{IsForm}
 use Rattle.ffc.specs.Inputs.{Loads, IsText, IsFormFile, HasForm, FormRefuses, LoadCause, FormCause, IsIntervals, HasMesh, MeshRefuses, MeshCause}
 use Rattle.ffc.specs.Assemble.{RunCause, AssembleCause}
@@ -68,16 +71,16 @@ same_mesh content files name m n told (text, held, f) (other, is, g) =
 
 -- ---- both
 
-run_accepted : (m : MeshData Fraction) (c : Fraction) (o : Outcome) → HasMatrix m c → RunCause c m o → o ≡ Memory
+run_accepted : (m : MeshData Fraction) (c : Ratio) (o : Outcome) → HasMatrix m c → RunCause c m o → o ≡ Memory
 run_accepted m c o whole (e, is, r) = is ∙ ap run_outcome (only_memory m c e whole r)
 
-assemble_accepted : (l : Loads) (files : List Held) (name mesh : List ℕ) (c : Fraction) (m : MeshData Fraction) (o : Outcome) → l.content ≡ Some files → HoldForm files name c → HoldMesh files mesh m
+assemble_accepted : (l : Loads) (files : List Held) (name mesh : List ℕ) (c : Ratio) (m : MeshData Fraction) (o : Outcome) → l.content ≡ Some files → HoldForm files name (fraction_of c) → HoldMesh files mesh m
     → HasMatrix m c → ¬ Rises l.before l.now → AssembleCause l name mesh o → o ≡ Memory
-assemble_accepted l files name mesh c m o told f g whole still (inl h) = form_accepted l files name c o told f still h
+assemble_accepted l files name mesh c m o told f g whole still (inl h) = form_accepted l files name (fraction_of c) o told f still h
 assemble_accepted l files name mesh c m o told f g whole still (inr (d, k, inl h)) = mesh_accepted l files mesh m o told g still h
 assemble_accepted l files name mesh c m o told f g whole still (inr (d, k, inr (n, i, r))) =
     run_accepted m c o whole
-    (subst (λ (x : Fraction). RunCause x m o) (same_factor l.content files name c d told f k)
+    (subst (λ (x : Ratio). RunCause x m o) (same_ratio d c (same_factor l.content files name (fraction_of c) (fraction_of d) told f k))
     (subst (λ (x : MeshData Fraction). RunCause d x o) (same_mesh l.content files mesh m n told g i) r))
 
 -- ---- the program

@@ -1,5 +1,6 @@
 pub mod MatrixLaws
 pub mod FactorLaws
+pub mod FitLaws
 pub mod FormLaws
 pub mod WordsLaws
 pub mod LoadLaws

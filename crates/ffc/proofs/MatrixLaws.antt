@@ -1,14 +1,22 @@
--- What is known of a result, joined
-use Rattle.std.proofs.Common.{Result, Ok, Err}
-use Rattle.std.specs.Prelude.{IfOk, IfErr, OnOk}
-
-pub ok_with : {A B : Type 0} (r : Result A B) (P Q : A → Type 0) (G : Type 0) → IfOk r P → OnOk r G → ((x : A) → G → P x → Q x) → IfOk r Q
-ok_with (Ok x) P Q G p g f = f x g p
-ok_with (Err e) P Q G p g f = tt
-
-pub on_ok_with : {A B : Type 0} (r : Result A B) (P : A → Type 0) (G H : Type 0) → IfOk r P → OnOk r G → ((x : A) → G → P x → H) → OnOk r H
-on_ok_with (Ok x) P G H p g f = f x g p
-on_ok_with (Err e) P G H p g f = tt
+-- The text of the values of the mass form, and what is known of a result, joined
+use Rattle.std.proofs.Common.{◌≡◌, ℕ, List, [], ◌++◌, codes, length, Result, Ok, Err, ap, ap₂, ◌∙◌, subst}
+use Rattle.std.specs.Prelude.{IfOk, IfErr}
+use Rattle.std.specs.List.{All}
+use Rattle.spaces.specs.Scalar.{local_size}
+use Rattle.spaces.specs.Space.{Space, scalars}
+use Rattle.ratio.specs.declared.reduced.Ratio.{Ratio}
+use Rattle.mesh_in.specs.MeshData.{MeshData, fractions}
+use Rattle.dofs.specs.Rows.{Numbering, numbering}
+use Rattle.assembly.specs.Assembly.{Assembly, AreGood, IsFew, Refused, RunRefused, row_count, run_entries}
+use Rattle.assembly.specs.LentRows.{LentRows, lent_count, lent_entries}
+use Rattle.assembly.specs.Sums.{Entry, AreSums}
+use Rattle.assembly.specs.declared.run_refusal.RunRefusal.{RunRefusal}
+use Rattle.assembly.specs.declared.run_refusal.RunRefusal.TheVariants as refusal
+use Rattle.form_values.specs.Mass.{mass_problem}
+use Rattle.form_values.specs.MassRuns.{line_element, mass_assembly}
+use Rattle.answers.specs.MatrixText.{SumRefusal, matrix_text}
+use Rattle.ffc.specs.Assemble.{values_text}
+use Rattle.ffc.specs.MassRows.{AreLineRows, AreMassRows}
 
 pub if_err : {A B : Type 0} (r : Result A B) (P Q : B → Type 0) → IfErr r P → ((e : B) → P e → Q e) → IfErr r Q
 if_err (Ok x) P Q p f = tt
@@ -17,3 +25,49 @@ if_err (Err e) P Q p f = f e p
 pub if_ok : {A B : Type 0} (r : Result A B) (P Q : A → Type 0) → IfOk r P → ((x : A) → P x → Q x) → IfOk r Q
 if_ok (Ok x) P Q p f = f x p
 if_ok (Err e) P Q p f = tt
+
+-- ---- the rows of the linear element
+pub line_rows_are : {E : Type 0} (r : Result Numbering E) (m : MeshData Ratio) (s : Space) → s ≡ line_element → IfOk r (λ d. d ≡ numbering m s)
+    → IfOk r (λ d. length d.cells ≡ length m.cells) → IfOk r (λ d. All (λ (rows : List ℕ). length rows ≡ local_size (scalars s)) d.cells)
+    → IfOk r (λ d. AreLineRows m d)
+line_rows_are (Ok d) m s e rows cells local =
+    record { rows = rows ∙ ap (numbering m) e; cells = cells; local = subst (λ (t : Space). All (λ (rows : List ℕ). length rows ≡ local_size (scalars t)) d.cells) e local }
+line_rows_are (Err a) m s e rows cells local = tt
+
+-- ---- what is pushed
+-- with as many rows and columns as the linear element has
+values_text_is : (c : Ratio) (m : MeshData Ratio) (n : Numbering) (done : List ℕ) (entries : List Entry) → n ≡ numbering m line_element
+    → done ≡ matrix_text (codes "a") (length n.labels) (length n.labels) entries → done ≡ values_text (mass_problem c (fractions m)) entries
+unfolding numbering
+values_text_is c m n done entries rows e =
+    e ∙ ap (λ (k : Numbering). matrix_text (codes "a") (length k.labels) (length k.labels) entries) rows
+
+-- a refusal of the runs is one of the assembly
+pub run_refused : (s : Assembly) (e : RunRefusal) → RunRefused s.runs e → Refused s e
+run_refused s refusal.TooManyEntries r = r
+run_refused s (refusal.Zero cell at) r = r
+run_refused s (refusal.CellPassed cell at op left right) r = r
+run_refused s (refusal.SumPassed row col) r = absurd r
+run_refused s refusal.Memory r = tt
+
+-- and so is one of the sums
+sum_refused : (s : Assembly) (e : RunRefusal) → IsFew s.runs → AreGood s.runs → SumRefusal (run_entries s) e → Refused s e
+sum_refused s refusal.TooManyEntries few good r = absurd r
+sum_refused s (refusal.Zero cell at) few good r = absurd r
+sum_refused s (refusal.CellPassed cell at op left right) few good r = absurd r
+sum_refused s (refusal.SumPassed row col) few good r = (few, good, r)
+sum_refused s refusal.Memory few good r = tt
+
+module _ (c : Ratio) (m : MeshData Ratio) (n : Numbering) (rows : LentRows) where
+  pub pushed_sums : (entries : List Entry) (are : AreMassRows c m n rows) → AreSums (lent_entries rows) entries → AreSums (run_entries (mass_assembly are.funs m n)) entries
+  pushed_sums entries are sums = subst (λ vs. AreSums vs entries) are.started.entries sums
+
+  pub pushed_text : (count : ℕ) (start done : List ℕ) (entries : List Entry) → AreMassRows c m n rows → count ≡ length n.labels → start ≡ []
+      → done ≡ start ++ matrix_text (codes "a") (lent_count rows) count entries → done ≡ values_text (mass_problem c (fractions m)) entries
+  pushed_text count start done entries are e nothing f =
+      values_text_is c m n done entries are.is.rows
+      (f ∙ ap (λ (s : List ℕ). s ++ matrix_text (codes "a") (lent_count rows) count entries) nothing
+      ∙ ap₂ (λ a b. matrix_text (codes "a") a b entries) (ap row_count are.started.rows) e)
+
+  pub pushed_refusal : (e : RunRefusal) (are : AreMassRows c m n rows) → SumRefusal (lent_entries rows) e → Refused (mass_assembly are.funs m n) e
+  pushed_refusal e are r = sum_refused (mass_assembly are.funs m n) e are.few are.good (subst (λ vs. SumRefusal vs e) are.started.entries r)

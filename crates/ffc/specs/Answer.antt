@@ -5,7 +5,9 @@ use Rattle.ends.specs.Count.{Rises}
 use Rattle.ends.specs.Held.{Held, bytes_of}
 use Rattle.ends.specs.Told.{appended, TakesPrefix}
 use Rattle.mesh_in.specs.MeshData.{MeshData}
-use Rattle.form_values.specs.Shares.{HasMatrix}
+use Rattle.ratio.specs.declared.reduced.Ratio.{Ratio}
+use Rattle.ratio.specs.Value.{fraction_of}
+use Rattle.form_values.specs.MassMatrix.{HasMatrix}
 use Rattle.ffc.specs.Assemble.{AssembleCause, IsMatrixText}
 use Rattle.ffc.specs.Compile.{IsUnitText}
 use Rattle.ffc.specs.Inputs.{Loads, FormCause, IsFormFile, IsIntervals}
@@ -57,8 +59,8 @@ HoldMesh files name m = (text : List ℕ) × (bytes_of files name ≡ Some text)
 -- the words are those of a command, and each file that they name is held and accepted; no cell is flat, and neither a cell nor a sum passes
 pub data CanAnswer (files : List Held) (words : List (List ℕ)) : Type 0 where
   Compiles : (form : List ℕ) (c : Fraction) → words ≡ compile_words form → HoldForm files form c → CanAnswer files words
-  Assembles : (form mesh : List ℕ) (c : Fraction) (m : MeshData Fraction) → words ≡ assemble_words form mesh
-      → HoldForm files form c → HoldMesh files mesh m → HasMatrix m c → CanAnswer files words
+  Assembles : (form mesh : List ℕ) (c : Ratio) (m : MeshData Fraction) → words ≡ assemble_words form mesh
+      → HoldForm files form (fraction_of c) → HoldMesh files mesh m → HasMatrix m c → CanAnswer files words
 
 -- where the files are told, the words can be answered and no fault was counted, the answer comes unless memory is wanting
 abbrev pub IsComplete : Loads → List (List ℕ) → ℕ → ℕ → Outcome → Type 0

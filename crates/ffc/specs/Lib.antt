@@ -3,6 +3,7 @@ pub mod FormFile
 pub mod Unit
 pub mod Inputs
 pub mod Assemble
+pub mod MassRows
 pub mod Compile
 pub mod Answer
 pub mod Command

@@ -4,14 +4,10 @@ ghost use Rattle.ffc.specs.Inputs.{loads};
 ghost use Rattle.ffc.specs.Assemble.{AssembleCause, IsMatrixText};
 
 use crate::inputs::{load_form, load_mesh};
-use crate::matrix::mass_matrix;
-use answers::{Outcome, push_matrix};
-use assembly::Rows;
+use crate::matrix::mass_text;
+use answers::Outcome;
 use ends::files::Files;
 use std::alloc::Global;
-
-// The name of the form.
-const FORM_NAME: &str = "a";
 
 /// The text of the matrix of the form on the mesh. The form is loaded first: nothing is said of a mesh before the form is accepted.
 pub fn assemble<F: Files>(
@@ -26,9 +22,6 @@ pub fn assemble<F: Files>(
 {
     let factor = load_form(alloc, files, form)?;
     let mesh = load_mesh(alloc, files, mesh)?;
-    let triples = mass_matrix(alloc, factor, &mesh)?;
-    let rows = Rows::new(alloc, &mesh)?.count;
-    let mut text = Vec::new(alloc);
-    push_matrix(&mut text, FORM_NAME, rows, rows, triples.as_slice())?;
+    let text = mass_text(alloc, factor, &mesh)?;
     Ok(text)
 }

@@ -3,7 +3,7 @@ ghost use Rattle.std.specs.Prelude.{◌≡◌, ◌+◌, ◌<◌, ◌^◌, ℕ, L
 ghost use Rattle.ratio.specs.Value.{fraction_of};
 ghost use Rattle.kernel.specs.MassShare.{IsSmallFactor};
 ghost use Rattle.mesh_in.specs.MeshData.{fractions};
-ghost use Rattle.form_values.specs.Shares.{IsIntervalMesh};
+ghost use Rattle.form_values.specs.MassMatrix.{IsIntervalMesh};
 ghost use Rattle.ffc.specs.Inputs.{loads, IsText, LoadCause, HasForm, FormCause, HasMesh, MeshCause};
 
 use crate::form_file::read_form;

@@ -1,39 +1,119 @@
 //! The matrix of the form `c*u*v*dx`, by the runs of its kernel.
-ghost use Rattle.std.specs.Prelude.{map, IfOk, IfErr, OnOk};
+ghost use Rattle.std.specs.Prelude.{◌≡◌, IfOk, IfErr, OnOk};
 ghost use Rattle.ratio.specs.Value.{fraction_of};
 ghost use Rattle.kernel.specs.MassShare.{IsSmallFactor};
+ghost use Rattle.spaces.specs.Reading.{space_of};
+ghost use Rattle.spaces.specs.Scalar.{laid_out};
+ghost use Rattle.spaces.specs.Space.{scalars};
 ghost use Rattle.mesh_in.specs.MeshData.{fractions};
-ghost use Rattle.assembly.specs.Kept.{seen};
-ghost use Rattle.form_values.specs.FormValue.{AreTriples};
 ghost use Rattle.form_values.specs.Mass.{mass_problem};
-ghost use Rattle.form_values.specs.Shares.{HasMatrix, Refuses, IsIntervalMesh};
+ghost use Rattle.form_values.specs.MassMatrix.{HasMatrix, Refuses, IsIntervalMesh};
+ghost use Rattle.form_values.specs.MassRuns.{line_element};
 ghost use Rattle.c_text.specs.Lawful.{MeetsRules};
+ghost use Rattle.ffc.specs.Assemble.{IsValuesText};
+ghost use Rattle.ffc.specs.MassRows.{ArePlanned, AreLineRows, AreMassRows};
 ghost use Rattle.ffc.specs.Unit.{IsMassUnit};
 
-use assembly::{RunRefusal, Triple, assemble_mass};
+use answers::push_matrix;
+use assembly::by_rows::{Funs, Rows, RunRefusal};
 use c_unit::CUnit;
+use dofs::{DofMap, number};
 use form_values::laws;
 use kernel::plan_mass;
 use mesh_in::Mesh;
+use monos::Layout;
 use ratio::Ratio;
+use spaces::{Cell, Element, Family};
 use sqlite_items::Items;
 use std::alloc::{AllocError, Global};
 
-// The name of the function of the form `a`.
+// The name of the form.
+const FORM_NAME: &str = "a";
+
+// The name of its function.
 const FUNCTION_NAME: &[u8] = b"ffc_a";
 
-/// The values of the form `c*u*v*dx` that are not zero, by row and then by column, for the continuous functions of degree one on intervals.
-pub fn mass_matrix(alloc: Global, c: Ratio, mesh: &Mesh) -> Result<Vec<Triple>, RunRefusal>
+// The element of its arguments.
+fn line_element() -> Element
+    ensures { space_of result ≡ line_element }
+{
+    match Element::scalar(Family::Lagrange, Cell::Interval, 1) {
+        Some(element) => element,
+        None => unreachable!(),
+    }
+}
+
+// The form has neither coefficients nor the position.
+fn line_layout(alloc: Global) -> Result<Layout, AllocError>
+    ensures rows { IfOk result (λ l. l.rows ≡ laid_out (scalars line_element)) }
+    ensures cols { IfOk result (λ l. l.cols ≡ laid_out (scalars line_element)) }
+{
+    let element = line_element();
+    Ok(Layout {
+        d: 1,
+        rows: element.parts(alloc)?,
+        cols: element.parts(alloc)?,
+        coefs: Items::new(alloc),
+        position: None,
+    })
+}
+
+// The rows of the form's arguments.
+fn line_rows(alloc: Global, mesh: &Mesh) -> Result<DofMap, AllocError>
+    requires { IsIntervalMesh mesh.now }
+    ensures { IfOk result (λ map. AreLineRows mesh.now map) }
+{
+    let element = line_element();
+    number(alloc, mesh, &element)
+}
+
+// The form's function, on all cells.
+fn functions_of(alloc: Global, c: Ratio) -> Result<Funs, AllocError>
+    requires { IsSmallFactor (fraction_of c) }
+    ensures { IfOk result (ArePlanned c) }
+{
+    Ok(Funs {
+        plain: plan_mass(alloc, FUNCTION_NAME, c)?,
+        marked: Vec::new(alloc),
+    })
+}
+
+// The rows of the matrix, before the first. All cells were run.
+fn run_cells<'a>(
+    alloc: Global,
+    c: Ratio,
+    mesh: &Mesh,
+    map: &'a DofMap,
+) -> Result<Rows<'a>, RunRefusal>
     requires factor { IsSmallFactor (fraction_of c) }
     requires mesh { IsIntervalMesh mesh.now }
-    ensures triples { IfOk result (λ ts. AreTriples (mass_problem c (fractions mesh.now)) (map seen ts.items)) }
-    ensures whole { OnOk result (HasMatrix (fractions mesh.now) (fraction_of c)) }
-    ensures refusal { IfErr result (Refuses (fractions mesh.now) (fraction_of c)) }
+    requires map { AreLineRows mesh.now map.now }
+    ensures rows { IfOk result (AreMassRows c mesh.now map.now) }
+    ensures refusal { IfErr result (Refuses (fractions mesh.now) c) }
 {
-    let function = plan_mass(alloc, FUNCTION_NAME, c)?;
+    let functions = functions_of(alloc, c)?;
+    let layout = line_layout(alloc)?;
+    laws::refusals();
+    let rows = Rows::new(alloc, &functions, &layout, mesh, Some(map), Some(map), &[])?;
+    Ok(rows)
+}
+
+/// The text of the matrix of the form `c*u*v*dx`, for the continuous functions of degree one on intervals. Each row is
+/// written as it is added up.
+pub fn mass_text(alloc: Global, c: Ratio, mesh: &Mesh) -> Result<Vec<u8>, RunRefusal>
+    requires factor { IsSmallFactor (fraction_of c) }
+    requires mesh { IsIntervalMesh mesh.now }
+    ensures text { IfOk result (λ text. IsValuesText (mass_problem c (fractions mesh.now)) text.items) }
+    ensures whole { OnOk result (HasMatrix (fractions mesh.now) c) }
+    ensures refusal { IfErr result (Refuses (fractions mesh.now) c) }
+{
+    let map = line_rows(alloc, mesh)?;
+    let mut rows = run_cells(alloc, c, mesh, &map)?;
+    let mut text = Vec::new(alloc);
     laws::matrix();
     laws::refusals();
-    assemble_mass(alloc, &function, mesh)
+    push_matrix(&mut text, FORM_NAME, map.count(), &mut rows)?;
+    Ok(text)
 }
 
 /// The unit of the form `c*u*v*dx`: its function alone. It meets the rules of kernels, so its text is read back as it.

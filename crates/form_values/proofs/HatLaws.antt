@@ -18,15 +18,15 @@ use Rattle.calculus.specs.Mass.{end_node, mass_density}
 use Rattle.kernel.specs.MassShare.{mass_share}
 use Rattle.mesh_in.specs.MeshData.{MeshData, IsCell}
 use Rattle.dofs.proofs.Lists.{same_some}
-use Rattle.assembly.specs.Rows.{has_vertex, occurs, row_of}
 use Rattle.assembly.specs.Sums.{Entry, values_at}
 use Rattle.refint.proofs.SharesLaw.{integral_nil}
-use Rattle.form_values.specs.HatFunctions.{row_vertices, weights_at, hat_function, hat_of_row, hat_density, hat_value_over, hat_value}
+use Rattle.form_values.specs.HatFunctions.{has_vertex, occurs, row_vertices, weights_at, hat_function, hat_of_row, hat_density, hat_value_over, hat_value}
 use Rattle.form_values.specs.Problem.{corners_of}
-use Rattle.form_values.specs.Shares.{end_of, cell_shares, share_entries}
+use Rattle.form_values.specs.MassMatrix.{end_of}
+use Rattle.form_values.proofs.VertexEntries.{vertex_entries_on, vertex_entries}
 use Rattle.form_values.proofs.EntrySums.{values_at-append}
 use Rattle.form_values.proofs.IntervalMeshes.{OnLine, simplex_is, IsMember, or_right, all_members, both, by_ends}
-use Rattle.form_values.proofs.RowLaws.{row_found, row_is}
+use Rattle.form_values.proofs.RowLaws.{row_of, row_found, row_is}
 
 -- ---- integrals of what is a multiple of the mass density, or nothing
 nothing_left : (v : Simplex) (c : Fraction) (p : Polynomial) → integral_value v (times (constant c) (times nil p)) ≡ zero_fraction
@@ -170,7 +170,7 @@ four_entries r s p q t u =
     record { row = r; col = r; value = p } ∷ record { row = r; col = s; value = q } ∷ record { row = s; col = r; value = t } ∷ record { row = s; col = s; value = u } ∷ []
 
 shares_at : (mesh : MeshData Fraction) (c : Fraction) (a b : ℕ) → OnLine mesh → a < length mesh.points → b < length mesh.points
-    → cell_shares mesh c (a ∷ b ∷ [])
+    → vertex_entries_on mesh c (a ∷ b ∷ [])
     ≡ four_entries (row_of mesh.cells a) (row_of mesh.cells b) (node_value (corners_of mesh (a ∷ b ∷ [])) c 0 0) (node_value (corners_of mesh (a ∷ b ∷ [])) c 0 1)
     (node_value (corners_of mesh (a ∷ b ∷ [])) c 1 0) (node_value (corners_of mesh (a ∷ b ∷ [])) c 1 1)
 shares_at mesh c a b line h k =
@@ -181,18 +181,18 @@ shares_at mesh c a b line h k =
     share : ℕ → ℕ → Fraction
     share j k = mass_share c (end_of mesh (a ∷ b ∷ []) 0) (end_of mesh (a ∷ b ∷ []) 1) j k
 
-adds_integrals : (mesh : MeshData Fraction) (c : Fraction) → OnLine mesh → (cell : List ℕ) → IsCell 1 (length mesh.points) cell → IsMember mesh.cells cell → AddsIntegrals mesh c (cell_shares mesh c) cell
+adds_integrals : (mesh : MeshData Fraction) (c : Fraction) → OnLine mesh → (cell : List ℕ) → IsCell 1 (length mesh.points) cell → IsMember mesh.cells cell → AddsIntegrals mesh c (vertex_entries_on mesh c) cell
 adds_integrals mesh c line cell is member =
-    by_ends (λ cell. IsMember mesh.cells cell → AddsIntegrals mesh c (cell_shares mesh c) cell) (length mesh.points)
+    by_ends (λ cell. IsMember mesh.cells cell → AddsIntegrals mesh c (vertex_entries_on mesh c) cell) (length mesh.points)
     (λ a b apart h k member. cell_sum mesh c a b apart h k
     (member (has_vertex a) (ap (λ t. t || ((b == a) || false)) (eq-eqb a a refl)))
     (member (has_vertex b) (or_right (a == b) ((b == b) || false) (ap (λ t. t || false) (eq-eqb b b refl))))
-    (cell_shares mesh c (a ∷ b ∷ [])) (shares_at mesh c a b line h k))
+    (vertex_entries_on mesh c (a ∷ b ∷ [])) (shares_at mesh c a b line h k))
     cell is member
 
 -- the shares of the cells add up to the values of the form
 pub share_values : (mesh : MeshData Fraction) (c : Fraction) → OnLine mesh → AllByRecursion (IsCell 1 (length mesh.points)) mesh.cells
-    → (row col : ℕ) → total (values_at (share_entries mesh c) row col) ≡ hat_value mesh c row col
+    → (row col : ℕ) → total (values_at (vertex_entries mesh c) row col) ≡ hat_value mesh c row col
 unfolding hat_value
 share_values mesh c line cells row col =
-    all_cells_sum mesh c (cell_shares mesh c) mesh.cells (both (IsCell 1 (length mesh.points)) (IsMember mesh.cells) (AddsIntegrals mesh c (cell_shares mesh c)) mesh.cells (adds_integrals mesh c line) cells (all_members mesh.cells)) row col
+    all_cells_sum mesh c (vertex_entries_on mesh c) mesh.cells (both (IsCell 1 (length mesh.points)) (IsMember mesh.cells) (AddsIntegrals mesh c (vertex_entries_on mesh c)) mesh.cells (adds_integrals mesh c line) cells (all_members mesh.cells)) row col

@@ -15,7 +15,7 @@ use Rattle.spaces.specs.Cell.{dimension}
 use Rattle.mesh_in.specs.MeshData.{MeshData, IsMesh, IsCell, is_distinct, fractions, most}
 use Rattle.assembly.specs.Run.{coordinates_of}
 use Rattle.form_values.specs.Problem.{corners_of}
-use Rattle.form_values.specs.Shares.{end_of, IsIntervalMesh}
+use Rattle.form_values.specs.MassMatrix.{end_of, IsIntervalMesh}
 
 -- ---- coordinates
 first_item : (p : List Fraction) → length p ≡ 1 → p ≡ slice_index_or p 0 zero_fraction ∷ []

@@ -13,11 +13,12 @@ pub mod MassCase
 pub mod MassEntries
 pub mod MassLaws
 pub mod MassRows
+pub mod MassRunLaws
 pub mod Parameters
 pub mod RowLaws
 pub mod RowSums
-pub mod ShareLaws
 pub mod Starts
 pub mod TriplesLaws
 pub mod Vanishing
+pub mod VertexEntries
 pub mod WorkedValue

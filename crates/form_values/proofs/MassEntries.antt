@@ -20,13 +20,15 @@ use Rattle.dofs.specs.Basis.{CellOf}
 use Rattle.kernel.specs.MassShare.{mass_share, mass_shares}
 use Rattle.refint.specs.Local.{local_shares}
 use Rattle.assembly.specs.Local.{local_entries}
-use Rattle.assembly.specs.Rows.{has_vertex, occurs, row_of}
 use Rattle.form_values.specs.CellLayout.{argument_rows}
 use Rattle.form_values.specs.CellShares.{shares_on, cell_entries, entries_from, tensor_entries}
+use Rattle.form_values.specs.HatFunctions.{has_vertex, occurs}
 use Rattle.form_values.specs.Mass.{mass_problem, no_others}
 use Rattle.form_values.specs.Problem.{corners_of, cell_of_mesh}
-use Rattle.form_values.specs.Shares.{end_of, cell_shares, share_entries}
+use Rattle.form_values.specs.MassMatrix.{end_of}
+use Rattle.form_values.proofs.VertexEntries.{vertex_entries_on, vertex_entries}
 use Rattle.form_values.proofs.MassRows.{line_parts, row_is_place}
+use Rattle.form_values.proofs.RowLaws.{row_of}
 use Rattle.form_values.proofs.IntervalMeshes.{OnLine, IsMember, all_members, by_ends, simplex_is, or_right}
 
 -- ---- the rows of a cell
@@ -71,9 +73,9 @@ mass_shares_are c m k a b kind line h i =
 -- ---- all cells
 module _ (c : Ratio) (m : MeshData Fraction) (kind : m.kind ≡ Interval) (line : OnLine m) (is : AllByRecursion (IsCell 1 (length m.points)) m.cells) where
   cell_entries_are : (k : ℕ) (cell : List ℕ) → IsCell 1 (length m.points) cell → IsMember m.cells cell
-      → cell_entries (mass_problem c m) (shares_on (mass_problem c m) no_others) (cell_of_mesh m k cell) ≡ cell_shares m (fraction_of c) cell
+      → cell_entries (mass_problem c m) (shares_on (mass_problem c m) no_others) (cell_of_mesh m k cell) ≡ vertex_entries_on m (fraction_of c) cell
   cell_entries_are k cell is_cell member =
-      by_ends (λ cell. IsMember m.cells cell → cell_entries (mass_problem c m) (shares_on (mass_problem c m) no_others) (cell_of_mesh m k cell) ≡ cell_shares m (fraction_of c) cell) (length m.points)
+      by_ends (λ cell. IsMember m.cells cell → cell_entries (mass_problem c m) (shares_on (mass_problem c m) no_others) (cell_of_mesh m k cell) ≡ vertex_entries_on m (fraction_of c) cell) (length m.points)
       (λ a b apart h i member.
       let rows = vertex_rows c m k a b kind is h i
       (member (has_vertex a) (ap (λ t. t || ((b == a) || false)) (eq-eqb a a refl)))
@@ -82,9 +84,9 @@ module _ (c : Ratio) (m : MeshData Fraction) (kind : m.kind ≡ Interval) (line 
       cell is_cell member
 
   entries_are : (k : ℕ) (cells : List (List ℕ)) → AllByRecursion (IsCell 1 (length m.points)) cells → AllByRecursion (IsMember m.cells) cells
-      → entries_from (mass_problem c m) (shares_on (mass_problem c m) no_others) k cells ≡ flat_map (cell_shares m (fraction_of c)) cells
+      → entries_from (mass_problem c m) (shares_on (mass_problem c m) no_others) k cells ≡ flat_map (vertex_entries_on m (fraction_of c)) cells
   entries_are k [] are members = refl
   entries_are k (cell ∷ cells) are members = ap₂ (λ es fs. es ++ fs) (cell_entries_are k cell are.0 members.0) (entries_are (suc k) cells are.1 members.1)
 
-  pub mass_entries : tensor_entries (mass_problem c m) (shares_on (mass_problem c m) no_others) ≡ share_entries m (fraction_of c)
+  pub mass_entries : tensor_entries (mass_problem c m) (shares_on (mass_problem c m) no_others) ≡ vertex_entries m (fraction_of c)
   mass_entries = entries_are 0 m.cells is (all_members m.cells)

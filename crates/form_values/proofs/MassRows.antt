@@ -8,9 +8,8 @@ use Rattle.std.specs.List.{AllByRecursion}
 use Rattle.std.specs.List.Sorted.{IsStrictlySortedBy}
 use Rattle.std.proofs.lemmas.Cmp.{tied_itself}
 use Rattle.spaces.specs.declared.cell.Cell.TheVariants.{Interval}
-use Rattle.spaces.specs.declared.family.Family.TheVariants.{Lagrange}
 use Rattle.spaces.specs.Scalar.{Scalar}
-use Rattle.spaces.specs.Space.{Space, scalar, scalars}
+use Rattle.spaces.specs.Space.{scalars}
 use Rattle.mesh_in.specs.MeshData.{IsCell}
 use Rattle.dofs.specs.Label.{Label}
 use Rattle.dofs.specs.Order.{label_cmp, place}
@@ -19,13 +18,11 @@ use Rattle.dofs.proofs.Lists.{member_at, member_left, member_right, member_all, 
 use Rattle.dofs.proofs.RowLaws.{label_total, label_separates, rows_in_order}
 use Rattle.dofs.proofs.SetLaws.{Member, all_append, all_weaker, contains_from_member, member_from_contains, is_sorted_set}
 use Rattle.refint.proofs.Lists.{append_nothing, map_append}
-use Rattle.assembly.specs.Rows.{has_vertex, occurs, rows_below, row_of}
-use Rattle.form_values.proofs.RowLaws.{row_found, row_is}
+use Rattle.form_values.specs.HatFunctions.{has_vertex, occurs, rows_below}
+use Rattle.form_values.specs.MassRuns.{line_element}
+use Rattle.form_values.proofs.RowLaws.{row_of, row_found, row_is}
 use Rattle.form_values.proofs.IntervalMeshes.{IsMember, all_members, by_ends}
 use Rattle.form_values.proofs.Starts.{label_at}
-
-abbrev pub line_element : Space
-line_element = scalar Lagrange Interval 1
 
 abbrev pub line_parts : List Scalar
 line_parts = scalars line_element

@@ -4,7 +4,7 @@ use Rattle.std.specs.Prelude.{slice_get}
 use Rattle.std.proofs.Math.Dec.{eqb}
 use Rattle.std.proofs.lemmas.Bool.Decides.{eqb_tells}
 use Rattle.dofs.proofs.Lists.{same_some}
-use Rattle.assembly.specs.Rows.{occurs, rows_below}
+use Rattle.form_values.specs.HatFunctions.{occurs, rows_below}
 use Rattle.form_values.proofs.Lists.{get_left}
 
 -- ---- places in lists
@@ -38,6 +38,10 @@ get-append_cases (x ∷ xs) ys (suc i) v h = go (get-append_cases xs ys i v h)
     go (inr (j, e, h)) = inr (j, more i j e, h)
 
 -- ---- rows
+-- the row of a vertex that occurs: how many that occur are below it
+abbrev pub row_of : List (List ℕ) → ℕ → ℕ
+row_of cells v = length (rows_below cells v)
+
 at_or_below : (v k : ℕ) → v < suc k → (v < k) ⊎ (v ≡ k)
 at_or_below v k h = go (eqb_tells v k)
   where

@@ -5,15 +5,28 @@
 -- on each cell the local function of that vertex, by Silvester's formula, and 0 on the cells that don't have it. A
 -- value is the sum over all cells of the integral of c times the product of the two hat functions, in physical
 -- coordinates.
-use Rattle.std.specs.Prelude.{ℕ, ◌==◌, List, [], ◌∷◌, length, map, slice_get, Option, None, Some, if◌then◌else◌}
+use Rattle.std.specs.Prelude.{ℕ, zero, suc, ◌==◌, Bool, List, [], ◌∷◌, ◌++◌, length, map, slice_get, Option, None, Some, if◌then◌else◌}
+use Rattle.std.specs.List.{list_any}
 use Rattle.algebra.specs.Fraction.{Fraction}
 use Rattle.algebra.specs.Sums.{total}
 use Rattle.calculus.specs.Polynomial.{Polynomial, nil, times, constant}
 use Rattle.calculus.specs.Integral.{integral_value}
 use Rattle.calculus.specs.LocalFunction.{local_function}
 use Rattle.mesh_in.specs.MeshData.{MeshData}
-use Rattle.assembly.specs.Rows.{has_vertex, rows_below}
 use Rattle.form_values.specs.Problem.{corners_of}
+
+-- a cell has the vertex
+abbrev pub has_vertex : ℕ → List ℕ → Bool
+has_vertex v cell = list_any (λ w. w == v) cell
+
+-- some cell has it
+abbrev pub occurs : List (List ℕ) → ℕ → Bool
+occurs cells v = list_any (has_vertex v) cells
+
+-- the vertices below a number that occur
+unfoldable pub rows_below : List (List ℕ) → ℕ → List ℕ
+rows_below cells zero = []
+rows_below cells (suc v) = rows_below cells v ++ (if occurs cells v then v ∷ [] else [])
 
 -- the vertices that occur in some cell, by rising number: number r is that of row r
 abbrev pub row_vertices : MeshData Fraction → List ℕ

@@ -1,9 +1,11 @@
+pub mod Assembled
 pub mod CellLayout
 pub mod CellShares
 pub mod FormValue
 pub mod HatFunctions
 pub mod Linear
 pub mod Mass
+pub mod MassMatrix
+pub mod MassRuns
 pub mod Problem
-pub mod Shares
 pub mod Worked

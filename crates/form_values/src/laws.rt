@@ -7,7 +7,6 @@ ghost use Rattle.algebra.specs.Ring.{natural};
 ghost use Rattle.algebra.specs.Fraction.{Fraction, mul, inverse, zero_fraction, fractions as field};
 ghost use Rattle.calculus.specs.Polynomial.{nil, derivative};
 ghost use Rattle.ratio.specs.declared.reduced.Ratio.{Ratio};
-ghost use Rattle.c_unit.specs.declared.unit.CFun.{CFun};
 ghost use Rattle.ratio.specs.Value.{fraction_of};
 ghost use Rattle.spaces.specs.declared.cell.Cell.TheVariants.{Interval};
 ghost use Rattle.spaces.specs.Cell.{dimension};
@@ -16,27 +15,28 @@ ghost use Rattle.mesh_in.specs.MeshData.{MeshData, IsMesh, fractions};
 ghost use Rattle.monos.specs.Monomial.{Monomial};
 ghost use Rattle.monos.specs.Layout.{IsLawfulOn, AreRising, value_count};
 ghost use Rattle.dofs.specs.Basis.{CellOf};
-ghost use Rattle.dofs.specs.Rows.{numbering};
+ghost use Rattle.dofs.specs.Rows.{Numbering, numbering};
 ghost use Rattle.refint.specs.Local.{local};
 ghost use Rattle.ufl_tree.specs.declared.function.Role.{Role};
 ghost use Rattle.ufl_meaning.specs.Density.{density};
 ghost use Rattle.ufl_meaning.specs.Environment.{Environment, HasOnlyUsed};
 ghost use Rattle.ufl_meaning.specs.Monomial.{HasNoOffset, monos_value};
-ghost use Rattle.assembly.specs.Rows.{row_of};
 ghost use Rattle.assembly.specs.Sums.{Entry, AreSums};
-ghost use Rattle.assembly.specs.Run.{IsGood, run_entries};
-ghost use Rattle.assembly.specs.Run as runs;
-ghost use Rattle.assembly.specs.declared.refusal.RunRefusal.{RunRefusal};
-ghost use Rattle.assembly.specs.declared.refusal.RunRefusal.TheVariants.{Memory};
+ghost use Rattle.assembly.specs.Assembly.{Assembly, AreGood, Refused, run_entries, tensor_on};
+ghost use Rattle.assembly.specs.declared.funs.Funs.{Funs};
+ghost use Rattle.assembly.specs.declared.run_refusal.RunRefusal.{RunRefusal};
+ghost use Rattle.assembly.specs.declared.run_refusal.RunRefusal.TheVariants.{Memory};
+ghost use Rattle.form_values.specs.Assembled.{IsAssemblyOf};
 ghost use Rattle.form_values.specs.CellLayout.{Occurring, Fits, argument_rows, rows_on, layout_of, values_on};
 ghost use Rattle.form_values.specs.CellShares.{HaveShares, IsWhole, cell_entries, density_on, tensor_entries};
 ghost use Rattle.form_values.specs.FormValue.{AreTriples, AreCellTriples, form_value, start, start_value};
-ghost use Rattle.form_values.specs.HatFunctions.{hat_value};
+ghost use Rattle.form_values.specs.HatFunctions.{hat_value, row_vertices};
 ghost use Rattle.form_values.specs.Linear.{HaveArguments, IsMultilinear};
 ghost use Rattle.form_values.specs.Mass.{mass_problem, no_others};
 ghost use Rattle.form_values.specs.Problem.{Problem, IsIn, marker_of, row_count};
 ghost use Rattle.form_values.specs.Worked.{square_problem};
-ghost use Rattle.form_values.specs.Shares.{HasMatrix, Refuses, IsPlanned, IsIntervalMesh};
+ghost use Rattle.form_values.specs.MassMatrix.{HasMatrix, Refuses};
+ghost use Rattle.form_values.specs.MassRuns.{IsMassAssembly, mass_assembly, mass_runs};
 
 /// Whatever makes the local tensors of the cells: where each is its cell's shares, their sums by row and column are
 /// the values of the form, and those of one cell are what it adds to them. The form is linear in its arguments: that
@@ -48,6 +48,14 @@ pub fn triples()
     ensures cells { (p : Problem) (o : Occurring) → Fits p o → IsMultilinear p o
         → (tensor : CellOf → List Fraction) → HaveShares p o tensor → (k : CellOf) → IsIn k p
         → (triples : List Entry) → AreSums (cell_entries p tensor k) triples → AreCellTriples p k triples }
+{}
+
+/// What assembly by rows adds up are the values of the form where the run on each cell gives the cell's shares, whatever
+/// the form and its functions.
+pub fn assembly()
+    ensures { (p : Problem) (o : Occurring) → Fits p o → IsMultilinear p o
+        → (s : Assembly) → IsAssemblyOf p s → HaveShares p o (λ k. tensor_on s.runs k.number)
+        → (triples : List Entry) → AreSums (run_entries s) triples → AreTriples p triples }
 {}
 
 /// A form is linear in its arguments where its density is a sum of monomials, on the cells of each marker others
@@ -102,7 +110,7 @@ pub fn mass_case()
     ensures values { (c : Ratio) (m : MeshData Fraction) → m.kind ≡ Interval → IsMesh m
         → (row col : ℕ) → hat_value m (fraction_of c) row col ≡ form_value (mass_problem c m) row col }
     ensures rows { (c : Ratio) (m : MeshData Fraction) → m.kind ≡ Interval → IsMesh m
-        → row_count (mass_problem c m) (mass_problem c m).test ≡ row_of m.cells (length m.points) }
+        → row_count (mass_problem c m) (mass_problem c m).test ≡ length (row_vertices m) }
 {}
 
 /// Worked: on the cells from 0 to 1, with marker 0, and from 3 to 1, with marker 1, the form `x[0]*x[0]*dx(1)` has
@@ -116,19 +124,19 @@ pub fn worked_value()
 /// the values of the form `c*u*v*dx` of linear functions on intervals. Then no cell is flat, and neither a cell nor a
 /// sum passes.
 pub fn matrix()
-    ensures values { (f : CFun) (c : Ratio) → IsPlanned f (fraction_of c) → (m : MeshData Ratio) → IsIntervalMesh m
-        → AllByRecursion (IsGood f (fractions m)) m.cells → (triples : List Entry)
-        → AreSums (run_entries f (fractions m)) triples → AreTriples (mass_problem c (fractions m)) triples }
-    ensures whole { (f : CFun) (c : Fraction) → IsPlanned f c → (m : MeshData Ratio) → IsIntervalMesh m
-        → AllByRecursion (IsGood f (fractions m)) m.cells → (triples : List Entry)
-        → AreSums (run_entries f (fractions m)) triples → HasMatrix (fractions m) c }
+    ensures values { (c : Ratio) (m : MeshData Ratio) (funs : Funs) (rows : Numbering) → IsMassAssembly c m funs rows
+        → AreGood (mass_runs funs m) → (triples : List Entry)
+        → AreSums (run_entries (mass_assembly funs m rows)) triples → AreTriples (mass_problem c (fractions m)) triples }
+    ensures whole { (c : Ratio) (m : MeshData Ratio) (funs : Funs) (rows : Numbering) → IsMassAssembly c m funs rows
+        → AreGood (mass_runs funs m) → (triples : List Entry)
+        → AreSums (run_entries (mass_assembly funs m rows)) triples → HasMatrix (fractions m) c }
 {}
 
 /// Where the assembly refuses, there is no matrix of the form, for the same cell or entry; and where there is one,
 /// memory alone may be wanting.
 pub fn refusals()
-    ensures cause { (f : CFun) (c : Fraction) → IsPlanned f c → (m : MeshData Ratio) → IsIntervalMesh m →
-        (e : RunRefusal) → runs.Refuses f (fractions m) e → Refuses (fractions m) c e }
-    ensures apart { (m : MeshData Fraction) (c : Fraction) (e : RunRefusal) → HasMatrix m c
+    ensures cause { (c : Ratio) (m : MeshData Ratio) (funs : Funs) (rows : Numbering) → IsMassAssembly c m funs rows
+        → (e : RunRefusal) → Refused (mass_assembly funs m rows) e → Refuses (fractions m) c e }
+    ensures apart { (m : MeshData Fraction) (c : Ratio) (e : RunRefusal) → HasMatrix m c
         → Refuses m c e → e ≡ Memory }
 {}

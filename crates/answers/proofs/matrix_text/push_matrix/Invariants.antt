@@ -1,11 +1,12 @@
-use Rattle.std.proofs.Common.{◌≡◌, ◌++◌, map, drop}
-use Rattle.std.specs.List.{flat_map}
-use Rattle.assembly.specs.Kept.{seen}
-use Rattle.answers.specs.MatrixText.{entry_line, matrix_text}
+use Rattle.std.proofs.Common.{◌++◌, ◌-◌}
+use Rattle.assembly.specs.LentRows.{lent_count}
+use Rattle.answers.specs.MatrixText.{header_line}
+use Rattle.answers.proofs.PushLaws.{ArePushed}
 use Rattle.answers.proofs.matrix_text.push_matrix.Given as goal
 
--- the lines so far and those that are left are all
-abbrev pub invariant-loop-triple : goal.invariant-loop-triple
-invariant-loop-triple l =
-    l.text.items ++ flat_map entry_line (map seen (drop l.triple-index l.triples))
-    ≡ l.fn.text.items ++ matrix_text l.name l.rows l.cols (map seen l.triples)
+-- the lines of the rows so far
+abbrev pub invariant-loop-row : goal.invariant-loop-row
+invariant-loop-row l = ArePushed l.fn.rows l.rows (l.fn.text.items ++ header_line l.name (lent_count l.fn.rows) l.cols) l.text.items
+
+abbrev pub decreases-loop-row : goal.decreases-loop-row
+decreases-loop-row l = lent_count l.rows - l.rows.next
