@@ -9,7 +9,8 @@ use answers::Outcome;
 use ends::files::Files;
 use std::alloc::Global;
 
-/// The text of the matrix of the form on the mesh. The form is loaded first: nothing is said of a mesh before the form is accepted.
+/// The text of the matrix of the form on the mesh. The form is loaded first: nothing is said of a mesh before the form
+/// is accepted.
 pub fn assemble<F: Files>(
     alloc: Global,
     files: &mut F,
