@@ -58,13 +58,13 @@ none_along (suc zero) ms x = no_derivatives 1 ms x
 none_along (suc (suc zero)) ms x = no_derivatives 2 ms x
 none_along (suc (suc (suc i))) ms x = refl
 
-short_unit : (n : ℕ) (b : Bool) → AreShort n (if b then number_mono one_fraction else [])
+pub short_unit : (n : ℕ) (b : Bool) → AreShort n (if b then number_mono one_fraction else [])
 short_unit n true = (omega arith, tt)
 short_unit n false = tt
 
 module _ (elements : Table) where
   -- ---- at most g atoms in each monomial
-  short_function : (f : Function) (k : Option ℕ) → AreShort (function_weight elements f).g (function_mono f k)
+  pub short_function : (f : Function) (k : Option ℕ) → AreShort (function_weight elements f).g (function_mono f k)
   short_function f None = tt
   short_function f (Some k) = (N.le_of_eq (sym (parts_are (scalars_in (slice_get elements f.element))).g), tt)
 
@@ -108,7 +108,7 @@ module _ (elements : Table) where
 
   module _ (d : ℕ) (positive : 1 ≤ d) where
     -- d directions, or no function
-    abbrev IsKnown : ℕ → (Names → Type 0) → Type 0
+    abbrev pub IsKnown : ℕ → (Names → Type 0) → Type 0
     IsKnown n P = (n ≡ d) ⊎ ((n ≡ 1) × ((v : Names) → P v))
 
     both_known : (m n : ℕ) (P Q R : Names → Type 0) → ((v : Names) → P v → Q v → R v) → IsKnown m P → IsKnown n Q → IsKnown (max m n) R
@@ -131,7 +131,7 @@ module _ (elements : Table) where
     one_known m P R f (inr p) = inr (p.0, f p.1)
 
     mutual
-      known : (e : Term) → HasDirections elements d e → IsExpanded e → IsKnown (term_directions elements e) (λ v. AreShort 0 (monomials elements e v))
+      pub known : (e : Term) → HasDirections elements d e → IsExpanded e → IsKnown (term_directions elements e) (λ v. AreShort 0 (monomials elements e v))
       known (num c) h x = inr (refl, λ v. (N.le_refl 0, tt))
       known (fun f at) h x = inl h
       known (mark l at b) h x = known b h x
@@ -145,7 +145,7 @@ module _ (elements : Table) where
       known (raise l at b) h x = absurd x
       known (turn w u b) h x = absurd x
 
-      items_known : (ts : Terms) → HaveDirections elements d ts → AreExpanded ts → IsKnown (items_directions elements ts) (λ v. (i : ℕ) → AreShort 0 (item_monomials elements ts v i))
+      pub items_known : (ts : Terms) → HaveDirections elements d ts → AreExpanded ts → IsKnown (items_directions elements ts) (λ v. (i : ℕ) → AreShort 0 (item_monomials elements ts v i))
       items_known no_terms h x = inr (refl, λ v i. tt)
       items_known (term t ts) h x = both_known _ _ _ _ _ (λ v p q i. either v p q i) (known t h.0 x.0) (items_known ts h.1 x.1)
         where
@@ -154,13 +154,13 @@ module _ (elements : Table) where
           either v p q (suc i) = q i
 
     -- ---- the leaves
-    unit_weighed : (b : Bool) → HasWeight (cost_of elements) d (one_weight exact) (if b then number_mono one_fraction else [])
+    pub unit_weighed : (b : Bool) → HasWeight (cost_of elements) d (one_weight exact) (if b then number_mono one_fraction else [])
     unit_weighed true =
         subst₂ (λ t b. HasWeight (cost_of elements) d (number_step t b) (number_mono one_fraction)) one_top one_bottom
         (number_list (cost_of elements) d (record { c = one_fraction; atoms = [] }) refl)
     unit_weighed false = nothing_list (cost_of elements) d (one_weight exact)
 
-    function_weighed : (f : Function) (k : Option ℕ) → HasWeight (cost_of elements) d (function_weight elements f) (function_mono f k)
+    pub function_weighed : (f : Function) (k : Option ℕ) → HasWeight (cost_of elements) d (function_weight elements f) (function_mono f k)
     function_weighed f None = nothing_list (cost_of elements) d (function_weight elements f)
     function_weighed f (Some k) = record {
       over = (subst₂ (λ b n. b ∣ n) (sym one_bottom) (sym h.den) (N.dvd_refl 1), tt);
@@ -182,7 +182,7 @@ module _ (elements : Table) where
             subst₂ (λ t q. t * q * 1 * (c * 1 * p) + 0 ≤ c * n) (sym ht) (sym hq)
             (subst₂ (λ p n. 1 * 1 * 1 * (c * 1 * p) + 0 ≤ c * n) (sym hp) (sym hn) (omega arith))
 
-    along_weighed : (i : ℕ) (e : Term) (ms : List Monomial) → AreShort (term_weight elements e).g ms → HasWeight (cost_of elements) d (term_weight elements e) ms
+    pub along_weighed : (i : ℕ) (e : Term) (ms : List Monomial) → AreShort (term_weight elements e).g ms → HasWeight (cost_of elements) d (term_weight elements e) ms
         → (term_directions elements e ≡ d) ⊎ AreShort 0 ms → HasWeight (cost_of elements) d (space_step (term_directions elements e) (term_weight elements e)) (monos_along i ms)
     along_weighed i e ms s w (inl p) =
         subst (λ n. HasWeight (cost_of elements) d (space_step n (term_weight elements e)) (monos_along i ms)) (sym p) (along_list (cost_of elements) d i (term_weight elements e) ms s w)

@@ -82,7 +82,7 @@ module _ (cost : Function → ℕ) (d l : ℕ) where
   merged_weighed p (m ∷ ms) s t x = merged_after_weighed p m ms s t x
 
   -- ---- dropping
-  nonzero_weighed : (ms : List Monomial) (s t : ℕ) → IsWeighed cost d l ms s t → IsWeighed cost d l (nonzero ms) s t
+  pub nonzero_weighed : (ms : List Monomial) (s t : ℕ) → IsWeighed cost d l ms s t → IsWeighed cost d l (nonzero ms) s t
   nonzero_weighed [] s t x = x
   nonzero_weighed (m ∷ ms) s t x =
       go (is_zero_fraction m.c) (nonzero_weighed ms s t (weighed_dropped cost d l m ms s t x)) (nonzero_weighed ms (spreads cost d ms) (loads cost d l ms) (exactly ms x.over.1))

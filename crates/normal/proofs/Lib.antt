@@ -10,3 +10,15 @@ pub mod OriginLaws
 pub mod KeptLaws
 pub mod NumberLaws
 pub mod IntegrandLaws
+mod ProductLists
+mod StepValues
+mod MergedSteps
+mod DerivedLists
+pub mod AtomOrder
+pub mod PlaceSteps
+pub mod RoomLaws
+pub mod NodeSums
+pub mod SafeLaws
+pub mod Sorting
+pub mod Refusals
+pub mod WalkLaws

@@ -17,7 +17,7 @@ use Rattle.normal.specs.Monomials.{IsExpanded, AreExpanded, number_mono, monomia
 use Rattle.normal.proofs.MonomialLaws.{append_value, below_value, number_value, function_value, all_negative_value, products_value, along_value}
 
 module _ (elements : Table) (env : Environment) (still : HasNoOffset env) where
-  unit_value : (b : Bool) → monos_value env (if b then number_mono one_fraction else []) ≡ (if b then one else nil)
+  pub unit_value : (b : Bool) → monos_value env (if b then number_mono one_fraction else []) ≡ (if b then one else nil)
   unit_value true = number_value env one_fraction ∙ constant-one
   unit_value false = refl
 

@@ -3,3 +3,5 @@ pub mod Collecting
 pub mod Bounding
 pub mod Origins
 pub mod Integrands
+pub mod Order
+pub mod Gathering

@@ -69,6 +69,15 @@ abbrev pub all_with : Atom → List (List Atom) → List (List Atom)
 all_with a [] = []
 all_with a (x ∷ xs) = (a ∷ x) ∷ all_with a xs
 
+-- with one derivative more of the atom at a place
+abbrev pub atoms_derived_at : ℕ → List Atom → ℕ → List Atom
+atoms_derived_at i [] k = []
+atoms_derived_at i (a ∷ more) zero = atom_along i a ∷ more
+atoms_derived_at i (a ∷ more) (suc k) = a ∷ atoms_derived_at i more k
+
+abbrev pub derived_at : ℕ → Monomial → ℕ → Monomial
+derived_at i m k = record { c = m.c; atoms = atoms_derived_at i m.atoms k }
+
 -- the product rule
 abbrev pub atoms_along : ℕ → List Atom → List (List Atom)
 atoms_along i [] = []

@@ -11,6 +11,8 @@ ghost use Rattle.monos.specs.declared.weight.Weight.{Weight};
 ghost use Rattle.monos.specs.declared.mono.Atom.{Atom};
 ghost use Rattle.ufl_meaning.specs.Prelude.{no_names, Environment, HasOnlyUsed, value as value_of, meaning, HasNoOffset, monos_value};
 ghost use Rattle.weigh.specs.Prelude.{IsLawfulTable, exact, weight_with, Bounds, IsSound, term_weight, HasWeight};
+ghost use Rattle.weigh.specs.Admitted.{IsAdmitted};
+ghost use Rattle.normal.specs.Gathering.{IsSafe};
 ghost use Rattle.lower.specs.Fitting.{IsFitting};
 ghost use Rattle.normal.specs.Integrands.{integrand_term, integrand_monomials};
 ghost use Rattle.normal.specs.Monomials.{IsExpanded, monomials};
@@ -77,4 +79,10 @@ pub fn integrand_law()
         → HasWeight (cost_of elements) d w (integrand_monomials elements e) }
     ensures numbers { (elements : Table) (w : Weight) (e : Typed) → IsFitting elements e
         → Bounds w (weight_with exact elements e) → HaveNumbers elements w (integrand_monomials elements e) }
+{}
+
+/// Where an admitted weight bounds an expanded tree, no step on the coefficients of its monomials passes.
+pub fn safe_law()
+    ensures { (elements : Table) (d : ℕ) → 1 ≤ d → (w : Weight) → IsAdmitted d w → (e : Term) → IsExpanded e
+        → HasDirections elements d e → Bounds w (term_weight elements e) → IsSafe elements e }
 {}
