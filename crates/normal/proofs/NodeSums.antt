@@ -40,6 +40,12 @@ use Rattle.normal.specs.Collecting.{AreReordered, merged, nonzero, IsSortedOut, 
 use Rattle.normal.specs.Bounding.{cost_of, AreShort, HasDirections, HaveDirections}
 use Rattle.normal.specs.Order.{digits_of, AreInOrder}
 use Rattle.normal.specs.Gathering.{IsCollected, IsGathered, IsSum, IsSumOf, IsSumBelowOf, AddsUp}
+use Rattle.normal.specs.Bounding.{HasNumbers, HaveNumbers}
+use Rattle.normal.specs.Origins.{HasFunction, HaveFunction, HasPlace, AllAtoms}
+use Rattle.normal.specs.Monomials.{atom_along}
+use Rattle.normal.proofs.NumberLaws.{first_wider, second_wider, label_wider, index_wider, wider, append as append_numbers, negatives, all_products, along as along_numbers, bare, unit, function_numbers, collected_numbers}
+use Rattle.normal.proofs.OriginLaws.{negative_all, products_all, along_all, unit_all}
+use Rattle.normal.proofs.KeptLaws.{collected_atoms}
 use Rattle.normal.proofs.OrderLaws.{monos_permuted}
 use Rattle.normal.proofs.MonomialLaws.{append_value, number_value, function_value, all_negative_value, products_value, along_value}
 use Rattle.normal.proofs.MeaningLaws.{unit_value}
@@ -71,6 +77,16 @@ collected_order ms rs g x =
     subst AreInOrder (sym g.is)
     (nonzero_keeps IsInOrder (merged g.sorted) (all_merged IsInOrder g.sorted (each_permuted (λ m. IsInOrder m.atoms) ms g.sorted g.permuted x)))
 
+-- ---- where atoms come from
+-- whatever holds of an atom's function and component holds of its derivative
+every : (P Q : Atom → Type 0) → ((a : Atom) → P a → Q a) → (xs : List Atom) → AllByRecursion P xs → AllByRecursion Q xs
+every P Q f [] x = tt
+every P Q f (a ∷ more) x = (f a x.0, every P Q f more x.1)
+
+every_atom : (P Q : Atom → Type 0) → ((a : Atom) → P a → Q a) → (ms : List Monomial) → AllAtoms P ms → AllAtoms Q ms
+every_atom P Q f [] x = tt
+every_atom P Q f (m ∷ ms) x = (every P Q f m.atoms x.0, every_atom P Q f ms x.1)
+
 -- ---- numbers that are negative
 negative_nonzero : (ms : List Monomial) → HasNoZero ms → HasNoZero (all_negative ms)
 negative_nonzero [] x = tt
@@ -90,6 +106,15 @@ module _ (elements : Table) where
   abbrev Directed : Term → List Monomial → Type 0
   Directed e ms = (d : ℕ) → 1 ≤ d → HasDirections elements d e → (term_directions elements e ≡ d) ⊎ AreShort 0 ms
 
+  abbrev From : Term → Atom → Type 0
+  From e a = HasFunction a.f e
+
+  stays : (e : Term) (i : ℕ) (a : Atom) → From e a → From e (atom_along i a)
+  stays e i a h = h
+
+  placed : (i : ℕ) (a : Atom) → HasPlace elements a → HasPlace elements (atom_along i a)
+  placed i a h = record { at = h.at; is = h.is }
+
   -- what one operation keeps
   directed : (e : Term) (n : ℕ) (ms ns : List Monomial) → (AreShort 0 ms → AreShort 0 ns) → (d : ℕ) → (n ≡ d) ⊎ AreShort 0 ms → (n ≡ d) ⊎ AreShort 0 ns
   directed e n ms ns f d (inl p) = inl p
@@ -103,6 +128,9 @@ module _ (elements : Table) where
       weight = λ d p h. nonzero_weighed C d _ (number_mono (fraction_of c)) _ _ (number_list C d (record { c = fraction_of c; atoms = [] }) refl);
       directions = λ d p h. inr (nonzero_keeps (λ (xs : List Atom). length xs ≤ 0) (number_mono (fraction_of c)) (N.le_refl 0, tt));
       short = nonzero_keeps (λ (xs : List Atom). length xs ≤ 1) (number_mono (fraction_of c)) (omega arith, tt);
+      numbers = nonzero_keeps (λ xs. HasNumbers elements (W (num c)) xs) (number_mono (fraction_of c)) (bare elements _ _, tt);
+      leaves = nonzero_keeps (λ xs. AllByRecursion (From (num c)) xs) (number_mono (fraction_of c)) (tt, tt);
+      places = nonzero_keeps (λ xs. AllByRecursion (HasPlace elements) xs) (number_mono (fraction_of c)) (tt, tt);
       nonzero = no_zero (number_mono (fraction_of c));
       in_order = nonzero_keeps IsInOrder (number_mono (fraction_of c)) (no_atoms, tt);
     };
@@ -118,6 +146,14 @@ module _ (elements : Table) where
       alone None = tt
       alone (Some k) = (one_is_not_zero, tt)
 
+      leaf : (k : Option ℕ) → AllAtoms (From (fun f at)) (function_mono f k)
+      leaf None = tt
+      leaf (Some k) = ((refl, tt), tt)
+
+      place : (k : Option ℕ) → function_place elements f (index_values v at) ≡ k → AllAtoms (HasPlace elements) (function_mono f k)
+      place None e = tt
+      place (Some k) e = ((record { at = index_values v at; is = e }, tt), tt)
+
       in_order : (k : Option ℕ) → AreInOrder (function_mono f k)
       in_order None = tt
       in_order (Some k) = ((λ n d p q. absurd (omega (arith, q))), tt)
@@ -129,6 +165,9 @@ module _ (elements : Table) where
           weight = λ d p h. function_weighed elements d p f (function_place elements f (index_values v at));
           directions = λ d p h. inl h;
           short = short_function elements f (function_place elements f (index_values v at));
+          numbers = function_numbers elements f (function_place elements f (index_values v at));
+          leaves = leaf (function_place elements f (index_values v at));
+          places = place (function_place elements f (index_values v at)) refl;
           nonzero = alone (function_place elements f (index_values v at));
           in_order = in_order (function_place elements f (index_values v at));
         };
@@ -141,6 +180,9 @@ module _ (elements : Table) where
       weight = λ d p h. unit_weighed elements d p (index_value v i == index_value v j);
       directions = λ d p h. inr (short_unit 0 (index_value v i == index_value v j));
       short = short_unit 1 (index_value v i == index_value v j);
+      numbers = unit elements (index_value v i == index_value v j);
+      leaves = unit_all (From (delta i j)) (stays (delta i j)) (index_value v i == index_value v j);
+      places = unit_all (HasPlace elements) placed (index_value v i == index_value v j);
       nonzero = alone (index_value v i == index_value v j);
       in_order = in_order (index_value v i == index_value v j);
     };
@@ -162,6 +204,9 @@ module _ (elements : Table) where
       weight = h.weight;
       directions = h.directions;
       short = short_more _ _ (N.le-add_right (W b).g (max (length at) 1)) ms h.short;
+      numbers = wider elements _ _ (label_wider (length at) (W b)) ms h.numbers;
+      leaves = h.leaves;
+      places = h.places;
       nonzero = h.nonzero;
       in_order = h.in_order;
     };
@@ -174,6 +219,9 @@ module _ (elements : Table) where
       weight = λ d p q. negated_list C d _ ms (all_negative ms) _ _ (are_negated C ms) (h.weight d p q);
       directions = λ d p q. directed a (term_directions elements a) ms (all_negative ms) (short_negative 0 ms) d (h.directions d p q);
       short = short_negative _ ms h.short;
+      numbers = negatives elements _ ms h.numbers;
+      leaves = negative_all (From a) (stays a) ms h.leaves;
+      places = negative_all (HasPlace elements) placed ms h.places;
       nonzero = negative_nonzero ms h.nonzero;
       in_order = negative_order ms h.in_order;
     };
@@ -186,6 +234,9 @@ module _ (elements : Table) where
     weight : (d : ℕ) → 1 ≤ d → HasDirections elements d e → HasWeight C d (W e) ms
     directions : Directed e ms
     short : AreShort (W e).g ms
+    numbers : HaveNumbers elements (W e) ms
+    leaves : AllAtoms (From e) ms
+    places : AllAtoms (HasPlace elements) ms
 
   gathered : (e : Term) (v : Names) (ms rs : List Monomial) → IsGathered ms rs → Holds e v ms → IsSum elements e v rs
   gathered e v ms rs g h =
@@ -196,6 +247,9 @@ module _ (elements : Table) where
         weight = λ d p q. subst (HasWeight C d (W e)) (sym (g.collected).is) (collected_weighed C d (W e).den (term_sound elements e).den ms ps _ _ o (h.weight d p q));
         directions = λ d p q. directed e (term_directions elements e) ms rs (λ k. subst (AreShort 0) (sym (g.collected).is) (collected_short 0 ms ps o k)) d (h.directions d p q);
         short = subst (AreShort (W e).g) (sym (g.collected).is) (collected_short (W e).g ms ps o h.short);
+        numbers = subst (HaveNumbers elements (W e)) (sym (g.collected).is) (collected_numbers elements (W e) ms ps o h.numbers);
+        leaves = subst (AllAtoms (From e)) (sym (g.collected).is) (collected_atoms (From e) ms ps o h.leaves);
+        places = subst (AllAtoms (HasPlace elements)) (sym (g.collected).is) (collected_atoms (HasPlace elements) ms ps o h.places);
         nonzero = subst HasNoZero (sym (g.collected).is) (no_zero (merged ps));
         in_order = collected_order g.reordered rs g.collected g.in_order;
       }
@@ -208,7 +262,7 @@ module _ (elements : Table) where
   collected_sum e v ms rs g k = record {
     is = λ x. let h = k.is x in
         gathered e v ms rs (record { reordered = ms; inside = same_orders ms; in_order = h.in_order; collected = g })
-        (record { value = h.value; weight = h.weight; directions = h.directions; short = h.short });
+        (record { value = h.value; weight = h.weight; directions = h.directions; short = h.short; numbers = h.numbers; leaves = h.leaves; places = h.places });
   }
 
   -- ---- derivatives
@@ -220,6 +274,9 @@ module _ (elements : Table) where
           weight = λ d p q. along_weighed elements d p (index_value v i) b ms h.short (h.weight d p q) (h.directions d p q);
           directions = λ d p q. directed b (term_directions elements b) ms (monos_along (index_value v i) ms) (short_along (index_value v i) 0 ms) d (h.directions d p q);
           short = short_along (index_value v i) _ ms h.short;
+          numbers = along_numbers elements (term_directions elements b) (index_value v i) (W b) ms h.numbers;
+          leaves = along_all (From b) (stays b) (index_value v i) ms h.leaves;
+          places = along_all (HasPlace elements) placed (index_value v i) ms h.places;
         });
   }
 
@@ -259,6 +316,11 @@ module _ (elements : Table) where
       directions = λ d p q. both_directed a b ms ns rs (λ f l. each_permuted (λ m. length m.atoms ≤ 0) (ms ++ ns) rs o (short_append 0 ms ns f l)) d p q.0 q.1 x.0 x.1 (h.directions d p q.0) (j.directions d p q.1);
       short = each_permuted (λ m. length m.atoms ≤ max (W a).g (W b).g) (ms ++ ns) rs o
           (short_append _ ms ns (short_more _ _ (left_max (W a).g (W b).g) ms h.short) (short_more _ _ (right_max (W a).g (W b).g) ns j.short));
+      numbers = each_permuted (λ m. HasNumbers elements (W (sum a b)) m.atoms) (ms ++ ns) rs o
+          (append_numbers elements _ ms ns (wider elements _ _ (first_wider (λ m n. m + n) (W a) (W b)) ms h.numbers) (wider elements _ _ (second_wider (λ m n. m + n) (W a) (W b)) ns j.numbers));
+      leaves = each_permuted (λ m. AllByRecursion (From (sum a b)) m.atoms) (ms ++ ns) rs o
+          (all_append (λ m. AllByRecursion (From (sum a b)) m.atoms) ms ns (every_atom (From a) (From (sum a b)) (λ x k. inl k) ms h.leaves) (every_atom (From b) (From (sum a b)) (λ x k. inr k) ns j.leaves));
+      places = each_permuted (λ m. AllByRecursion (HasPlace elements) m.atoms) (ms ++ ns) rs o (all_append (λ m. AllByRecursion (HasPlace elements) m.atoms) ms ns h.places j.places);
       nonzero = each_permuted (λ m. is_zero_fraction m.c ≡ false) (ms ++ ns) rs o (all_append (λ m. is_zero_fraction m.c ≡ false) ms ns h.nonzero j.nonzero);
       in_order = each_permuted (λ m. IsInOrder m.atoms) (ms ++ ns) rs o (all_append (λ m. IsInOrder m.atoms) ms ns h.in_order j.in_order);
     };
@@ -272,6 +334,9 @@ module _ (elements : Table) where
           weight = λ d p q. times_list C d (W a) (W b) (term_sound elements a) (term_sound elements b) ms ns (products ms ns) (h.weight d p q.0) (j.weight d p q.1) (are_products C ms ns);
           directions = λ d p q. both_directed a b ms ns (products ms ns) (short_products 0 0 ms ns) d p q.0 q.1 x.0 x.1 (h.directions d p q.0) (j.directions d p q.1);
           short = short_products _ _ ms ns h.short j.short;
+          numbers = all_products elements (W a) (W b) ms ns h.numbers j.numbers;
+          leaves = products_all (From (prod a b)) (stays (prod a b)) ms ns (every_atom (From a) (From (prod a b)) (λ x k. inl k) ms h.leaves) (every_atom (From b) (From (prod a b)) (λ x k. inr k) ns j.leaves);
+          places = products_all (HasPlace elements) placed ms ns h.places j.places;
         });
   }
 
@@ -283,6 +348,9 @@ module _ (elements : Table) where
       weight = λ d p q. nothing_list C d (W (prod a b));
       directions = λ d p q. inr tt;
       short = tt;
+      numbers = tt;
+      leaves = tt;
+      places = tt;
       nonzero = tt;
       in_order = tt;
     };
@@ -296,6 +364,9 @@ module _ (elements : Table) where
       weight = λ d p q. record { over = tt; sum = omega arith; total = omega arith };
       directions = λ d p q. inr tt;
       short = tt;
+      numbers = tt;
+      leaves = tt;
+      places = tt;
       nonzero = tt;
       in_order = tt;
     };
@@ -319,6 +390,9 @@ module _ (elements : Table) where
           (weighed_sorted C d _ (ms ++ ns) rs _ _ o (weighed_append C d _ ms ns _ _ _ _ (h.weight d p q) (j.weight d p q)));
       directions = λ d p q. both_short d rs (λ f l. each_permuted (λ m. length m.atoms ≤ 0) (ms ++ ns) rs o (short_append 0 ms ns f l)) (h.directions d p q) (j.directions d p q);
       short = each_permuted (λ m. length m.atoms ≤ (W e).g) (ms ++ ns) rs o (short_append _ ms ns h.short j.short);
+      numbers = each_permuted (λ m. HasNumbers elements (W e) m.atoms) (ms ++ ns) rs o (append_numbers elements _ ms ns h.numbers j.numbers);
+      leaves = each_permuted (λ m. AllByRecursion (From e) m.atoms) (ms ++ ns) rs o (all_append (λ m. AllByRecursion (From e) m.atoms) ms ns h.leaves j.leaves);
+      places = each_permuted (λ m. AllByRecursion (HasPlace elements) m.atoms) (ms ++ ns) rs o (all_append (λ m. AllByRecursion (HasPlace elements) m.atoms) ms ns h.places j.places);
       nonzero = each_permuted (λ m. is_zero_fraction m.c ≡ false) (ms ++ ns) rs o (all_append (λ m. is_zero_fraction m.c ≡ false) ms ns h.nonzero j.nonzero);
       in_order = each_permuted (λ m. IsInOrder m.atoms) (ms ++ ns) rs o (all_append (λ m. IsInOrder m.atoms) ms ns h.in_order j.in_order);
     };
@@ -337,6 +411,9 @@ module _ (elements : Table) where
       weight = λ d p q. weighed_more C d _ ms _ _ _ _ (at_most n (W e).cost) (at_most_total n (W e).cost (W e).num) (h.weight d p q);
       directions = h.directions;
       short = h.short;
+      numbers = wider elements _ _ (index_wider n (W e)) ms h.numbers;
+      leaves = h.leaves;
+      places = h.places;
       nonzero = h.nonzero;
       in_order = h.in_order;
     };
@@ -361,6 +438,9 @@ module _ (elements : Table) where
     weight : (d : ℕ) → 1 ≤ d → HaveDirections elements d ts → HasWeight C d (items_weight elements ts) ms
     directions : (d : ℕ) → 1 ≤ d → HaveDirections elements d ts → (items_directions elements ts ≡ d) ⊎ AreShort 0 ms
     short : AreShort (items_weight elements ts).g ms
+    numbers : HaveNumbers elements (items_weight elements ts) ms
+    leaves : AllAtoms (λ a. HaveFunction a.f ts) ms
+    places : AllAtoms (HasPlace elements) ms
     nonzero : HasNoZero ms
     in_order : AreInOrder ms
 
@@ -377,6 +457,9 @@ module _ (elements : Table) where
     weight = λ d p q. h.weight d p q.0;
     directions = λ d p q. directed_first d p (h.directions d p q.0);
     short = h.short;
+    numbers = h.numbers;
+    leaves = every_atom (From x) (λ a. HaveFunction a.f (term x no_terms)) (λ y k. inl k) ms h.leaves;
+    places = h.places;
     nonzero = h.nonzero;
     in_order = h.in_order;
   }
@@ -391,6 +474,9 @@ module _ (elements : Table) where
         (join_first (W x) (items_weight elements (term y ts))) ms (h.weight d p q.0);
     directions = λ d p q. directed_first d p q.1 (h.directions d p q.0);
     short = short_more _ _ (left_max (W x).g (items_weight elements (term y ts)).g) ms h.short;
+    numbers = wider elements _ _ (first_wider max (W x) (items_weight elements (term y ts))) ms h.numbers;
+    leaves = every_atom (From x) (λ a. HaveFunction a.f (term x (term y ts))) (λ z k. inl k) ms h.leaves;
+    places = h.places;
     nonzero = h.nonzero;
     in_order = h.in_order;
   }
@@ -408,6 +494,9 @@ module _ (elements : Table) where
         (join_second (W x) (items_weight elements (term y ts))) ms (h.weight d p q.1);
     directions = λ d p q. directed_next d p q.0 (h.directions d p q.1);
     short = short_more _ _ (right_max (W x).g (items_weight elements (term y ts)).g) ms h.short;
+    numbers = wider elements _ _ (second_wider max (W x) (items_weight elements (term y ts))) ms h.numbers;
+    leaves = every_atom (λ a. HaveFunction a.f (term y ts)) (λ a. HaveFunction a.f (term x (term y ts))) (λ z k. inr k) ms h.leaves;
+    places = h.places;
     nonzero = h.nonzero;
     in_order = h.in_order;
   }
@@ -440,6 +529,9 @@ module _ (elements : Table) where
       weight = h.weight;
       directions = h.directions;
       short = h.short;
+      numbers = h.numbers;
+      leaves = h.leaves;
+      places = h.places;
       nonzero = h.nonzero;
       in_order = h.in_order;
     };
@@ -457,6 +549,9 @@ module _ (elements : Table) where
       weight = λ d p q. nothing_list C d (items_weight elements (terms_of (map term_of ts)));
       directions = λ d p q. inr tt;
       short = tt;
+      numbers = tt;
+      leaves = tt;
+      places = tt;
       nonzero = tt;
       in_order = tt;
     };

@@ -27,28 +27,28 @@ use Rattle.normal.proofs.OrderLaws.{in_any_order}
 use Rattle.normal.proofs.WeightLaws.{both_long, AreAsLong, long_choices, costs_append, turns_append, counted_zero, counted_one, counted_two, IsChoice, are_choices}
 
 -- ---- a weight that is wider in the numbers that count for each monomial
-record IsWider (k w : Weight) : Type 0 where
-  f : w.f ≤ k.f
-  rmin : k.rmin ≤ w.rmin
-  rmax : w.rmax ≤ k.rmax
-  deg : w.deg ≤ k.deg
-  fac : w.fac ∣ k.fac
-  s : w.s ≤ k.s
+pub record IsWider (k w : Weight) : Type 0 where
+  pub f : w.f ≤ k.f
+  pub rmin : k.rmin ≤ w.rmin
+  pub rmax : w.rmax ≤ k.rmax
+  pub deg : w.deg ≤ k.deg
+  pub fac : w.fac ∣ k.fac
+  pub s : w.s ≤ k.s
 
 -- what puts two weights together keeps of each what a list does
-first_wider : (put : ℕ → ℕ → ℕ) (a b : Weight) → IsWider (both_step put a b) a
+pub first_wider : (put : ℕ → ℕ → ℕ) (a b : Weight) → IsWider (both_step put a b) a
 first_wider put a b = let h = join_first a b in record { f = h.f; rmin = h.rmin; rmax = h.rmax; deg = h.deg; fac = h.fac; s = h.s }
 
-second_wider : (put : ℕ → ℕ → ℕ) (a b : Weight) → IsWider (both_step put a b) b
+pub second_wider : (put : ℕ → ℕ → ℕ) (a b : Weight) → IsWider (both_step put a b) b
 second_wider put a b = let h = join_second a b in record { f = h.f; rmin = h.rmin; rmax = h.rmax; deg = h.deg; fac = h.fac; s = h.s }
 
-label_wider : (n : ℕ) (a : Weight) → IsWider (label_step n a) a
+pub label_wider : (n : ℕ) (a : Weight) → IsWider (label_step n a) a
 label_wider n a = record { f = N.le_refl a.f; rmin = N.le_refl a.rmin; rmax = N.le_refl a.rmax; deg = N.le_refl a.deg; fac = N.dvd_refl a.fac; s = N.le_refl a.s }
 
-index_wider : (n : ℕ) (a : Weight) → IsWider (index_step n a) a
+pub index_wider : (n : ℕ) (a : Weight) → IsWider (index_step n a) a
 index_wider n a = record { f = N.le_refl a.f; rmin = N.le_refl a.rmin; rmax = N.le_refl a.rmax; deg = N.le_refl a.deg; fac = N.dvd_refl a.fac; s = N.le_refl a.s }
 
-bound_wider : (w e : Weight) → Bounds w e → IsWider w e
+pub bound_wider : (w e : Weight) → Bounds w e → IsWider w e
 bound_wider w e b = record { f = b.f; rmin = b.rmin; rmax = b.rmax; deg = b.deg; fac = b.fac; s = b.s }
 
 -- ---- arithmetic of the degrees
@@ -104,7 +104,7 @@ module _ (elements : Table) where
   s_of f = (function_weight elements f).s
 
   -- ---- lists
-  wider : (k w : Weight) → IsWider k w → (ms : List Monomial) → HaveNumbers elements w ms → HaveNumbers elements k ms
+  pub wider : (k w : Weight) → IsWider k w → (ms : List Monomial) → HaveNumbers elements w ms → HaveNumbers elements k ms
   wider k w b [] x = tt
   wider k w b (m ∷ ms) x = (
     record {
@@ -118,10 +118,10 @@ module _ (elements : Table) where
     wider k w b ms x.1,
   )
 
-  append : (w : Weight) (ms ns : List Monomial) → HaveNumbers elements w ms → HaveNumbers elements w ns → HaveNumbers elements w (ms ++ ns)
+  pub append : (w : Weight) (ms ns : List Monomial) → HaveNumbers elements w ms → HaveNumbers elements w ns → HaveNumbers elements w (ms ++ ns)
   append w ms ns = all_append (λ m. HasNumbers elements w m.atoms) ms ns
 
-  negatives : (w : Weight) (ms : List Monomial) → HaveNumbers elements w ms → HaveNumbers elements w (all_negative ms)
+  pub negatives : (w : Weight) (ms : List Monomial) → HaveNumbers elements w ms → HaveNumbers elements w (all_negative ms)
   negatives w [] x = tt
   negatives w (m ∷ ms) x = (x.0, negatives w ms x.1)
 
@@ -140,7 +140,7 @@ module _ (elements : Table) where
   row a b m [] h x = tt
   row a b m (n ∷ ns) h x = (both a b m.atoms n.atoms h x.0, row a b m ns h x.1)
 
-  all_products : (a b : Weight) (ms ns : List Monomial) → HaveNumbers elements a ms → HaveNumbers elements b ns → HaveNumbers elements (times_step a b) (products ms ns)
+  pub all_products : (a b : Weight) (ms ns : List Monomial) → HaveNumbers elements a ms → HaveNumbers elements b ns → HaveNumbers elements (times_step a b) (products ms ns)
   all_products a b [] ns x y = tt
   all_products a b (m ∷ ms) ns x y = append (times_step a b) (all_times m ns) (products ms ns) (row a b m ns x.0 y) (all_products a b ms ns x.1 y)
 
@@ -172,21 +172,21 @@ module _ (elements : Table) where
         (factors d w m.c m.atoms (atoms_along i m.atoms) x.0 (are_choices fac_of i counts m.atoms) (are_choices s_of i counts m.atoms) (long_choices i m.atoms)
         (sum_choices degree_of i m.atoms)) (derived d w ms x.1)
 
-  along : (d i : ℕ) (w : Weight) (ms : List Monomial) → HaveNumbers elements w ms → HaveNumbers elements (space_step d w) (monos_along i ms)
+  pub along : (d i : ℕ) (w : Weight) (ms : List Monomial) → HaveNumbers elements w ms → HaveNumbers elements (space_step d w) (monos_along i ms)
   along d zero w ms x = derived 0 (counted_zero fac_of) d w ms x
   along d (suc zero) w ms x = derived 1 (counted_one fac_of) d w ms x
   along d (suc (suc zero)) w ms x = derived 2 (counted_two fac_of) d w ms x
   along d (suc (suc (suc i))) w ms x = tt
 
   -- ---- leaves
-  bare : (n m : ℕ) → HasNumbers elements (number_step n m) []
+  pub bare : (n m : ℕ) → HasNumbers elements (number_step n m) []
   bare n m = record { functions = omega arith; least = omega arith; greatest = omega arith; degrees = omega arith; fac = N.dvd_refl 1; s = omega arith }
 
-  unit : (b : Bool) → HaveNumbers elements one_step (if b then number_mono one_fraction else [])
+  pub unit : (b : Bool) → HaveNumbers elements one_step (if b then number_mono one_fraction else [])
   unit true = (bare 1 1, tt)
   unit false = tt
 
-  function_numbers : (f : Function) (k : Option ℕ) → HaveNumbers elements (function_weight elements f) (function_mono f k)
+  pub function_numbers : (f : Function) (k : Option ℕ) → HaveNumbers elements (function_weight elements f) (function_mono f k)
   function_numbers f None = tt
   function_numbers f (Some k) = (
     record {

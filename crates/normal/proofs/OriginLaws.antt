@@ -18,7 +18,7 @@ module _ (P : Atom → Type 0) (keeps : (i : ℕ) (a : Atom) → P a → P (atom
   both_all : (ms ns : List Monomial) → AllAtoms P ms → AllAtoms P ns → AllAtoms P (ms ++ ns)
   both_all ms ns = all_append (λ m. AllByRecursion P m.atoms) ms ns
 
-  negative_all : (ms : List Monomial) → AllAtoms P ms → AllAtoms P (all_negative ms)
+  pub negative_all : (ms : List Monomial) → AllAtoms P ms → AllAtoms P (all_negative ms)
   negative_all [] x = tt
   negative_all (m ∷ ms) x = (x.0, negative_all ms x.1)
 
@@ -26,7 +26,7 @@ module _ (P : Atom → Type 0) (keeps : (i : ℕ) (a : Atom) → P a → P (atom
   row_all m [] h x = tt
   row_all m (n ∷ ns) h x = (all_append P m.atoms n.atoms h x.0, row_all m ns h x.1)
 
-  products_all : (ms ns : List Monomial) → AllAtoms P ms → AllAtoms P ns → AllAtoms P (products ms ns)
+  pub products_all : (ms ns : List Monomial) → AllAtoms P ms → AllAtoms P ns → AllAtoms P (products ms ns)
   products_all [] ns x y = tt
   products_all (m ∷ ms) ns x y = both_all (all_times m ns) (products ms ns) (row_all m ns x.0 y) (products_all ms ns x.1 y)
 
@@ -52,13 +52,13 @@ module _ (P : Atom → Type 0) (keeps : (i : ℕ) (a : Atom) → P a → P (atom
       both_all (all_with_factor m.c (atoms_along i m.atoms)) (all_derived i ms)
       (factor_all m.c (atoms_along i m.atoms) (choices_all i m.atoms x.0)) (derivatives_all i ms x.1)
 
-  along_all : (i : ℕ) (ms : List Monomial) → AllAtoms P ms → AllAtoms P (monos_along i ms)
+  pub along_all : (i : ℕ) (ms : List Monomial) → AllAtoms P ms → AllAtoms P (monos_along i ms)
   along_all zero ms x = derivatives_all 0 ms x
   along_all (suc zero) ms x = derivatives_all 1 ms x
   along_all (suc (suc zero)) ms x = derivatives_all 2 ms x
   along_all (suc (suc (suc i))) ms x = tt
 
-  unit_all : (b : Bool) → AllAtoms P (if b then number_mono one_fraction else [])
+  pub unit_all : (b : Bool) → AllAtoms P (if b then number_mono one_fraction else [])
   unit_all true = (tt, tt)
   unit_all false = tt
 

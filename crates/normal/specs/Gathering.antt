@@ -18,7 +18,8 @@ use Rattle.weigh.specs.Lists.{IsWeighed, HasWeight}
 use Rattle.weigh.specs.Terms.{term_weight, term_directions}
 use Rattle.normal.specs.Monomials.{IsExpanded, products}
 use Rattle.normal.specs.Collecting.{AreReordered, merged, nonzero, IsRising, IsStrict, HasNoZero}
-use Rattle.normal.specs.Bounding.{cost_of, AreShort, HasDirections}
+use Rattle.normal.specs.Origins.{HasFunction, HasPlace, AllAtoms}
+use Rattle.normal.specs.Bounding.{HaveNumbers, cost_of, AreShort, HasDirections}
 use Rattle.normal.specs.Order.{comes_before, AreInOrder}
 use Rattle.normal.specs.declared.names.Bound.{Bound}
 
@@ -84,14 +85,19 @@ AddsUp elements e v ms = (env : Environment) → HasNoOffset env → monos_value
 -- what bounds the tree bounds ms
 abbrev pub IsBounded : Table → Term → List Monomial → Type 0
 IsBounded elements e ms =
-    (d : ℕ) → 1 ≤ d → HasDirections elements d e → (w : Weight) → IsSound w → Bounds w (term_weight elements e) → HasWeight (cost_of elements) d w ms
+    (d : ℕ) → 1 ≤ d → HasDirections elements d e → (w : Weight) → IsSound w → Bounds w (term_weight elements e)
+    → HasWeight (cost_of elements) d w ms
 
 -- what is known of the monomials of an expanded tree
 pub record IsSum (elements : Table) (e : Term) (v : Names) (ms : List Monomial) : Type 0 where
   pub value : AddsUp elements e v ms
-  pub weight : (d : ℕ) → 1 ≤ d → HasDirections elements d e → HasWeight (cost_of elements) d (term_weight elements e) ms
+  pub weight : (d : ℕ) → 1 ≤ d → HasDirections elements d e
+      → HasWeight (cost_of elements) d (term_weight elements e) ms
   pub directions : (d : ℕ) → 1 ≤ d → HasDirections elements d e → (term_directions elements e ≡ d) ⊎ AreShort 0 ms
   pub short : AreShort (term_weight elements e).g ms
+  pub numbers : HaveNumbers elements (term_weight elements e) ms
+  pub leaves : AllAtoms (λ a. HasFunction a.f e) ms
+  pub places : AllAtoms (HasPlace elements) ms
   pub nonzero : HasNoZero ms
   pub in_order : AreInOrder ms
 
@@ -108,11 +114,16 @@ pub record IsSafe (elements : Table) (e : Term) : Type 0 where
 
 -- the sum of a tree at the first n values of a name
 pub record IsSumBelow (elements : Table) (e : Term) (i : ℕ) (v : Names) (n : ℕ) (ms : List Monomial) : Type 0 where
-  pub value : (env : Environment) → HasNoOffset env → monos_value env ms ≡ sum_below n (λ k. meaning elements e env (with_name i k v))
-  pub weight : (d : ℕ) → 1 ≤ d → HasDirections elements d e → IsWeighed (cost_of elements) d (term_weight elements e).den ms
+  pub value : (env : Environment) → HasNoOffset env
+      → monos_value env ms ≡ sum_below n (λ k. meaning elements e env (with_name i k v))
+  pub weight : (d : ℕ) → 1 ≤ d → HasDirections elements d e
+      → IsWeighed (cost_of elements) d (term_weight elements e).den ms
       (n * (term_weight elements e).cost) (n * ((term_weight elements e).cost * (term_weight elements e).num))
   pub directions : (d : ℕ) → 1 ≤ d → HasDirections elements d e → (term_directions elements e ≡ d) ⊎ AreShort 0 ms
   pub short : AreShort (term_weight elements e).g ms
+  pub numbers : HaveNumbers elements (term_weight elements e) ms
+  pub leaves : AllAtoms (λ a. HasFunction a.f e) ms
+  pub places : AllAtoms (HasPlace elements) ms
   pub nonzero : HasNoZero ms
   pub in_order : AreInOrder ms
 

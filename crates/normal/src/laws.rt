@@ -68,10 +68,13 @@ pub fn weight_law()
         → HaveNumbers elements w ms → HaveNumbers elements w (nonzero (merged ps)) }
 {}
 
-/// An integrand that is lowered, whose derivatives are carried out and that is multiplied out: its monomials add up to its value
-/// in every environment without offsets and without parameters that aren't in use, and what bounds its weight bounds them.
+/// An integrand that is lowered, whose derivatives are carried out and that is multiplied out: its monomials add up
+/// to its value
+/// in every environment without offsets and without parameters that aren't in use, and what bounds its weight bounds
+/// them.
 pub fn integrand_law()
-    ensures value { (elements : Table) → IsLawfulTable elements → (e : Typed) → IsFitting elements e → (env : Environment)
+    ensures value { (elements : Table) → IsLawfulTable elements → (e : Typed) → IsFitting elements e →
+        (env : Environment)
         → HasOnlyUsed env → HasNoOffset env
         → monos_value env (integrand_monomials elements e) ≡ value_of elements e env [] no_names }
     ensures weight { (elements : Table) (d : ℕ) → 1 ≤ d → (w : Weight) → IsSound w → (e : Typed) → IsFitting elements e

@@ -54,7 +54,8 @@ pub fn negated(alloc: Global, ms: Vec<Mono>) -> Result<Vec<Mono>, AllocError>
 
 /// Both lists in one: the shorter one moves.
 pub fn joined(mut ms: Vec<Mono>, mut ns: Vec<Mono>) -> Result<Vec<Mono>, AllocError>
-    ensures { IfOk result (λ all. IsPermutation (monomials_of ms.items ++ monomials_of ns.items) (monomials_of all.items)) }
+    ensures { IfOk result (λ all. IsPermutation (monomials_of ms.items ++ monomials_of ns.items)
+        (monomials_of all.items)) }
 {
     if ms.len() < ns.len() {
         ns.append(&mut ms)?;
@@ -67,7 +68,8 @@ pub fn joined(mut ms: Vec<Mono>, mut ns: Vec<Mono>) -> Result<Vec<Mono>, AllocEr
 
 /// The product, with its atoms in order. `Range` only where the product of the coefficients does not fit.
 fn product(alloc: Global, m: &Mono, n: &Mono) -> Result<Mono, NormalRefusal>
-    ensures value { IfOk result (λ k. IsReordered (product_of (monomial_of m.now) (monomial_of n.now)) (monomial_of k)) }
+    ensures value { IfOk result (λ k. IsReordered (product_of (monomial_of m.now) (monomial_of n.now))
+        (monomial_of k)) }
     ensures in_order { IfOk result (λ k. AreInOrder (monomial_of k ∷ [])) }
     ensures range { IfErr result (λ r. r ≡ Range → step_of_product (fraction_of m.now.c) (fraction_of n.now.c) ≡ None) }
 {
@@ -85,7 +87,8 @@ fn product(alloc: Global, m: &Mono, n: &Mono) -> Result<Mono, NormalRefusal>
 
 /// The product of two sums: one monomial for each pair, with its atoms in order.
 pub fn products(alloc: Global, ms: &[Mono], ns: &[Mono]) -> Result<Vec<Mono>, NormalRefusal>
-    ensures value { IfOk result (λ all. AreReordered (products_of (monomials_of ms.now) (monomials_of ns.now)) (monomials_of all.items)) }
+    ensures value { IfOk result (λ all. AreReordered (products_of (monomials_of ms.now) (monomials_of ns.now))
+        (monomials_of all.items)) }
     ensures in_order { IfOk result (λ all. AreInOrder (monomials_of all.items)) }
     ensures range { IfErr result (λ r. HaveRoom (monomials_of ms.now) (monomials_of ns.now) → r ≡ Memory) }
 {
@@ -136,10 +139,12 @@ fn with_derivative(
     })
 }
 
-/// The derivative in a direction of space, of which there are three: by the product rule one monomial for each atom, with its
+/// The derivative in a direction of space, of which there are three: by the product rule one monomial for each atom,
+/// with its
 /// atoms in order.
 pub fn along(alloc: Global, ms: &[Mono], direction: u8) -> Result<Vec<Mono>, NormalRefusal>
-    ensures value { IfOk result (λ all. AreReordered (monos_along direction (monomials_of ms.now)) (monomials_of all.items)) }
+    ensures value { IfOk result (λ all. AreReordered (monos_along direction (monomials_of ms.now))
+        (monomials_of all.items)) }
     ensures in_order { IfOk result (λ all. AreInOrder (monomials_of all.items)) }
     ensures range { IfErr result (λ r. AreFew (monomials_of ms.now) → r ≡ Memory) }
 {

@@ -31,7 +31,8 @@ fn function(
     bounds: &[Bound],
     at: &[Ix],
 ) -> Result<Vec<Mono>, AllocError>
-    ensures { IfOk result (λ ms. monomials_of ms.items ≡ function_mono f (place_of_function (table_of elements.now) f (index_values (names_of bounds.now) at.now))) }
+    ensures { IfOk result (λ ms. monomials_of ms.items ≡ function_mono f (place_of_function (table_of elements.now) f
+        (index_values (names_of bounds.now) at.now))) }
 {
     let Some(component) = function_place(elements, f, bounds, at) else {
         return Ok(Vec::new(alloc));
@@ -55,7 +56,8 @@ fn unit(alloc: Global, i: u8, j: u8) -> Result<Vec<Mono>, AllocError>
     }
 }
 
-/// The monomials of a tree where the indices have these values. Those of products and of derivatives are put together at once.
+/// The monomials of a tree where the indices have these values. Those of products and of derivatives are put
+/// together at once.
 #[cycle(walk)]
 pub fn sum(
     alloc: Global,
@@ -63,7 +65,8 @@ pub fn sum(
     bounds: &[Bound],
     e: &Plain,
 ) -> Result<Vec<Mono>, NormalRefusal>
-    ensures value { IfOk result (λ ms. IsSumOf (table_of elements.now) (term_of e.now) (names_of bounds.now) (monomials_of ms.items)) }
+    ensures value { IfOk result (λ ms. IsSumOf (table_of elements.now) (term_of e.now) (names_of bounds.now)
+        (monomials_of ms.items)) }
     ensures range { IfErr result (λ r. IsSafe (table_of elements.now) (term_of e.now) → r ≡ Memory) }
 {
     match e {
@@ -107,7 +110,8 @@ fn opposite(
     bounds: &[Bound],
     a: &Plain,
 ) -> Result<Vec<Mono>, NormalRefusal>
-    ensures value { IfOk result (λ ms. IsSumOf (table_of elements.now) (neg (term_of a.now)) (names_of bounds.now) (monomials_of ms.items)) }
+    ensures value { IfOk result (λ ms. IsSumOf (table_of elements.now) (neg (term_of a.now)) (names_of bounds.now)
+        (monomials_of ms.items)) }
     ensures range { IfErr result (λ r. IsSafe (table_of elements.now) (neg (term_of a.now)) → r ≡ Memory) }
 {
     let ms = sum(alloc, elements, bounds, a)?;
@@ -123,7 +127,8 @@ fn derivative(
     at: Ix,
     body: &Plain,
 ) -> Result<Vec<Mono>, NormalRefusal>
-    ensures value { IfOk result (λ ms. IsSumOf (table_of elements.now) (dx at (term_of body.now)) (names_of bounds.now) (monomials_of ms.items)) }
+    ensures value { IfOk result (λ ms. IsSumOf (table_of elements.now) (dx at (term_of body.now))
+        (names_of bounds.now) (monomials_of ms.items)) }
     ensures range { IfErr result (λ r. IsSafe (table_of elements.now) (dx at (term_of body.now)) → r ≡ Memory) }
 {
     let ms = sum(alloc, elements, bounds, body)?;
@@ -140,7 +145,8 @@ fn at_value(
     value: u8,
     body: &Plain,
 ) -> Result<Vec<Mono>, NormalRefusal>
-    ensures value { IfOk result (λ ms. IsSumOf (table_of elements.now) (term_of body.now) (with_name index value (names_of bounds.now)) (monomials_of ms.items)) }
+    ensures value { IfOk result (λ ms. IsSumOf (table_of elements.now) (term_of body.now) (with_name index value
+        (names_of bounds.now)) (monomials_of ms.items)) }
     ensures range { IfErr result (λ r. IsSafe (table_of elements.now) (term_of body.now) → r ≡ Memory) }
 {
     let inner = with_bound(alloc, bounds, index, value)?;
@@ -157,8 +163,10 @@ fn over(
     dim: u8,
     body: &Plain,
 ) -> Result<Vec<Mono>, NormalRefusal>
-    ensures value { IfOk result (λ ms. IsSumOf (table_of elements.now) (over_term index dim (term_of body.now)) (names_of bounds.now) (monomials_of ms.items)) }
-    ensures range { IfErr result (λ r. IsSafe (table_of elements.now) (over_term index dim (term_of body.now)) → r ≡ Memory) }
+    ensures value { IfOk result (λ ms. IsSumOf (table_of elements.now) (over_term index dim (term_of body.now))
+        (names_of bounds.now) (monomials_of ms.items)) }
+    ensures range { IfErr result (λ r. IsSafe (table_of elements.now) (over_term index dim (term_of body.now)) → r
+        ≡ Memory) }
 {
     let mut all = Vec::new(alloc);
     for k in 0..dim {
@@ -177,8 +185,11 @@ fn item(
     items: &[Plain],
     which: u8,
 ) -> Result<Vec<Mono>, NormalRefusal>
-    ensures value { IfOk result (λ ms. (i : Ix) → value_of_index (names_of bounds.now) i ≡ which → IsSumOf (table_of elements.now) (pick i (terms_of (map term_of items.now))) (names_of bounds.now) (monomials_of ms.items)) }
-    ensures range { IfErr result (λ r. (i : Ix) → IsSafe (table_of elements.now) (pick i (terms_of (map term_of items.now))) → r ≡ Memory) }
+    ensures value { IfOk result (λ ms. (i : Ix) → value_of_index (names_of bounds.now) i ≡ which → IsSumOf
+        (table_of elements.now) (pick i (terms_of (map term_of items.now))) (names_of bounds.now)
+        (monomials_of ms.items)) }
+    ensures range { IfErr result (λ r. (i : Ix) → IsSafe (table_of elements.now) (pick i (terms_of
+        (map term_of items.now))) → r ≡ Memory) }
 {
     match items.get(which as usize) {
         Some(item) => sum(alloc, elements, bounds, item),

@@ -1,4 +1,4 @@
-use Rattle.std.proofs.Common.{length, arith, ◌≡◌, ◌==◌, [], if◌then◌else◌, sym, ◌∙◌, ap, ap₂, refl}
+use Rattle.std.proofs.Common.{subst, length, arith, ◌≡◌, ◌==◌, [], if◌then◌else◌, sym, ◌∙◌, ap, ap₂, refl}
 use Rattle.std.proofs.lemmas.Grind.{common_steps}
 use Rattle.std.proofs.lemmas.Result.{err_from_is_err_and}
 use Rattle.algebra.specs.Fraction.{one_fraction}
@@ -8,7 +8,7 @@ use Rattle.ufl_tree.specs.Reading.{term_of}
 use Rattle.ufl_tree.proofs.ReadingLaws.{term_of-Num, term_of-Fun, term_of-Delta, term_of-Raise, term_of-Turn}
 use Rattle.monos.specs.Monomial.{monomials_of}
 use Rattle.normal.specs.Monomials.{number_mono, function_mono}
-use Rattle.normal.specs.Gathering.{names_of}
+use Rattle.normal.specs.Gathering.{names_of, IsSumBelowOf}
 use Rattle.normal.proofs.NodeSums as n
 use Rattle.normal.proofs.SafeLaws as s
 use Rattle.normal.proofs.WalkLaws as l
@@ -155,6 +155,12 @@ over-returns-in_err-ms-clause-range t c =
 pub over-loop-k-preserved : goal.over-loop-k-preserved
 over-loop-k-preserved t c =
     n.one_more_below _ (term_of c.args.body.now) c.args.index (names_of c.args.bounds.now) c.loop-k.k _ _ _ c.in_ok-all.ensures c.loop-k.invariant c.in_ok-ms.ensures.value
+
+pub over-returns-clause-value : goal.over-returns-clause-value
+over-returns-clause-value t c =
+    let e : c.loop-k.k ≡ c.args.dim = omega (arith, c.loop-k-test.false, c.loop-k.auto.k-end) in
+    n.over_sum _ (term_of c.args.body.now) c.args.index c.args.dim _ _
+    (subst (λ k. IsSumBelowOf (table_of c.args.elements.now) (term_of c.args.body.now) c.args.index (names_of c.args.bounds.now) k (monomials_of c.loop-k.all.items)) e c.loop-k.invariant)
 
 pub item-returns-in-Some-clause-value : goal.item-returns-in-Some-clause-value
 item-returns-in-Some-clause-value t c =
