@@ -6,8 +6,7 @@ ghost use Rattle.assembly.specs.Lent.{HasNoneBeyond};
 ghost use Rattle.assembly.specs.LentRows.{lent_entries};
 ghost use Rattle.answers.specs.MatrixText.{entry_line, header_line, GainsMatrix, SumRefusal};
 
-use assembly::Triple;
-use assembly::{Rows, RunRefusal};
+use assembly::{Rows, RunRefusal, Triple};
 use itoa::Buffer;
 use std::alloc::AllocError;
 
