@@ -6,11 +6,11 @@ ghost use Rattle.ufl_tree.specs.Places.{table_of};
 ghost use Rattle.ufl_form.specs.Reading.{form_of};
 ghost use Rattle.calculus.specs.LocalFunction.{factorial};
 ghost use Rattle.weigh.specs.declared.refusal.WeightRefusal.{WeightRefusal};
-ghost use Rattle.weigh.specs.Refusals.{size, weight_refusal, IsLawfulTable};
+ghost use Rattle.weigh.specs.Refusals.{size, weight_refusal};
 ghost use Rattle.weigh.specs.Weighing.{exact, kept, form_weight};
 ghost use Rattle.ufl_form.specs.Table.{form_kind};
 ghost use Rattle.ufl_tree.specs.FormTerm.{FormTerm};
-ghost use Rattle.ufl_tree.specs.Places.{Table};
+ghost use Rattle.ufl_tree.specs.Places.{IsLawfulTable, Table};
 ghost use Rattle.admit.specs.Admission.{same_flag, same_numbers, same_pairs, has_arity, admission};
 ghost use Rattle.admit.specs.Denominators.{HasDenominators};
 

@@ -7,12 +7,11 @@ use Rattle.ufl_tree.specs.declared.tree.Op1.TheVariants.{Neg, Grad, NablaGrad, D
 use Rattle.ufl_meaning.specs.Environment.{Environment}
 use Rattle.ufl_tree.specs.Indices.{Names, index_values, first_size}
 use Rattle.ufl_meaning.specs.Meaning.{meaning}
-use Rattle.ufl_tree.specs.Places.{Table}
+use Rattle.ufl_tree.specs.Places.{Table, IsLawfulTable}
 use Rattle.ufl_tree.specs.Typed.{Kind, Typed, number, identity, function, piece, one, two, power, index, partial, tensor, list, variable, diff, TypedList, no_items, item, shape_of}
 use Rattle.ufl_meaning.specs.Value.{value}
 use Rattle.lower.specs.Lowering.{lower}
 use Rattle.lower.specs.Fitting.{OneRank, IsFitting, AreFitting}
-use Rattle.weigh.specs.Refusals.{IsLawfulTable}
 use Rattle.lower.specs.Keeping.{AreBelow, HasShares, IsLowerable, AreLowerable, NamesBelow, AllNamesBelow}
 use Rattle.lower.specs.Shares.{share_of}
 use Rattle.lower.proofs.ShareLaws.{share_is}

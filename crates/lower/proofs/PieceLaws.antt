@@ -11,10 +11,9 @@ use Rattle.ufl_meaning.specs.Environment.{Environment}
 use Rattle.ufl_tree.specs.Indices.{Names, index_value, index_values, place_from}
 use Rattle.ufl_meaning.specs.Meaning.{meaning, item_meaning}
 use Rattle.ufl_meaning.specs.Operators.{at_place}
-use Rattle.ufl_tree.specs.Places.{Table, Piece, element_shape, piece_from, place_after, place_in, place_in_piece, sub_element, function_place, piece_place}
+use Rattle.ufl_tree.specs.Places.{Table, IsLawfulTable, Piece, element_shape, piece_from, place_after, place_in, place_in_piece, sub_element, function_place, piece_place}
 use Rattle.ufl_tree.specs.Term.{Term}
 use Rattle.lower.specs.Lowering.{terms_from, place_term, piece_term}
-use Rattle.weigh.specs.Refusals.{IsLawfulTable}
 
 -- how many components a shape has
 abbrev count : List ℕ → ℕ

@@ -9,13 +9,12 @@ use Rattle.ufl_tree.specs.Indices.{Names, with_names, index_value, index_values,
 use Rattle.ufl_meaning.specs.Meaning.{meaning, item_meaning}
 use Rattle.ufl_meaning.specs.Operators.{along, two_value}
 use Rattle.monos.specs.Summed.{summed}
-use Rattle.ufl_tree.specs.Places.{Table}
+use Rattle.ufl_tree.specs.Places.{Table, IsLawfulTable}
 use Rattle.ufl_tree.specs.Term.{dx}
 use Rattle.ufl_tree.specs.Typed.{Typed, number, identity, function, piece, one, two, power, index, partial, tensor, list, variable, diff, TypedList, no_items, item, own_kind, shape_of, free_of}
 use Rattle.ufl_meaning.specs.Value.{value, item_value}
 use Rattle.lower.specs.Renaming.{Renaming, renamed, all_renamed}
 use Rattle.lower.specs.Lowering.{with_indices, two_term, lower, lower_all}
-use Rattle.weigh.specs.Refusals.{IsLawfulTable}
 use Rattle.lower.specs.Keeping.{AreBelow, IsRenamed, IsLowerable, AreLowerable}
 use Rattle.lower.proofs.NameLaws.{front_values, back_values, front_below, join_values, join_below, renamed_value, renamed_values, renamed_below, renamed_names}
 use Rattle.lower.proofs.OperatorLaws.{one_kept, two_kept, names_kept, identity_kept, power_kept, chosen_kept}

@@ -2,7 +2,7 @@
 use Rattle.std.proofs.Common.{◌≡◌, ℕ, ◌≤◌, [], refl, ◌∙◌, arith}
 use native.Mathlib.Nat as N
 use Rattle.ufl_tree.specs.declared.function.Ix.TheVariants.{Fixed, Named}
-use Rattle.ufl_tree.specs.Places.{Table}
+use Rattle.ufl_tree.specs.Places.{Table, IsLawfulTable}
 use Rattle.ufl_tree.specs.Term.{Term, num, fun, mark, neg, sum, prod, over, dx, delta, pick, raise, turn, Terms, no_terms, term}
 use Rattle.ufl_tree.specs.Typed.{Typed}
 use Rattle.ufl_meaning.specs.Density.{no_names}
@@ -13,7 +13,6 @@ use Rattle.ufl_meaning.proofs.EnvironmentLaws.{raised_only_used, turned_only_use
 use Rattle.monos.specs.declared.weight.Weight.{Weight}
 use Rattle.weigh.specs.Bounds.{Bounds, IsSound}
 use Rattle.weigh.specs.Lists.{HasWeight}
-use Rattle.weigh.specs.Refusals.{IsLawfulTable}
 use Rattle.weigh.specs.Terms.{term_weight}
 use Rattle.weigh.specs.Weighing.{exact, weight_with}
 use Rattle.weigh.proofs.BoundsLaws.{bounds_trans}

@@ -3,11 +3,11 @@ use Rattle.std.proofs.Common.{◌≡◌, ℕ, suc, ◌+◌, ◌-◌, ◌<◌, �
 use Rattle.std.proofs.lemmas.List.{map-append, length-map}
 use Rattle.std.proofs.lemmas.Option.{slice_get_within}
 use Rattle.spaces.specs.declared.element_tree.ElementTree.{ElementTree}
-use Rattle.spaces.specs.Space.{Space}
+use Rattle.spaces.specs.Space.{Space, IsLawful}
 use Rattle.spaces.specs.Equality.{same_space}
 use Rattle.spaces.specs.Reading.{space_of}
 use Rattle.spaces.proofs.EqualityLaws.{space_true, spaces_equal}
-use Rattle.ufl_tree.specs.Places.{Table, table_of}
+use Rattle.ufl_tree.specs.Places.{Table, table_of, IsLawfulTable}
 use Rattle.ufl_expr.specs.Elements.{number_from, number_of, has_space, AreDistinct, with_element}
 
 -- ---- numbers
@@ -119,6 +119,16 @@ pub distinct_added : (e : ElementTree) (es us : List ElementTree) → number_of 
 distinct_added e es us h same d =
     subst AreDistinct (sym (ap table_of same ∙ map-append space_of es (e ∷ [])))
     (distinct_longer (space_of e) (table_of es) d (lacks_number 0 (space_of e) (table_of es) h))
+
+-- ---- lawful elements
+lawful_longer : (s : Space) (ts : Table) → IsLawfulTable ts → IsLawful s → IsLawfulTable (ts ++ s ∷ [])
+lawful_longer s [] l h = (h, tt)
+lawful_longer s (t ∷ ts) l h = (l.0, lawful_longer s ts l.1 h)
+
+pub lawful_added : (e : ElementTree) (es us : List ElementTree) → us ≡ es ++ e ∷ [] → IsLawfulTable (table_of es) → IsLawful (space_of e)
+    → IsLawfulTable (table_of us)
+lawful_added e es us same l h =
+    subst IsLawfulTable (sym (ap table_of same ∙ map-append space_of es (e ∷ []))) (lawful_longer (space_of e) (table_of es) l h)
 
 pub number_moved : (e f : ElementTree) (es us : List ElementTree) (o : Option ℕ) → e ≡ f → es ≡ us → o ≡ number_of (space_of e) (table_of es)
     → number_of (space_of f) (table_of us) ≡ o

@@ -6,7 +6,7 @@ ghost use Rattle.spaces.specs.declared.family.Family.TheVariants.{Lagrange};
 ghost use Rattle.spaces.specs.Space.{scalar};
 ghost use Rattle.spaces.specs.Equality.{same_space};
 ghost use Rattle.spaces.specs.Reading.{space_of};
-ghost use Rattle.ufl_tree.specs.Places.{table_of};
+ghost use Rattle.ufl_tree.specs.Places.{table_of, IsLawfulTable};
 ghost use Rattle.ufl_expr.specs.Elements.{position_space, may_have, spaces_of, space_in, number_of, with_element};
 
 use spaces::{Cell, Element, ElementTree, Family, same_element};
@@ -107,6 +107,13 @@ impl Elements {
         Elements {
             items: Items::new(alloc),
         }
+    }
+
+    /// Says that each element of the table is lawful; it does nothing.
+    pub fn lawful(&self)
+        ensures { IsLawfulTable (table_of self.now) }
+    {
+        let _items = &self.items;
     }
 
     /// The element of this number, or `None` exactly where there is none.

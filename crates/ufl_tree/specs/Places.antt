@@ -2,7 +2,7 @@
 use Rattle.std.specs.Prelude.{ℕ, zero, suc, ◌+◌, List, [], ◌∷◌, length, map, Option, None, Some, slice_get}
 use Rattle.spaces.specs.declared.element_tree.ElementTree.{ElementTree}
 use Rattle.spaces.specs.Reading.{space_of}
-use Rattle.spaces.specs.Space.{Space, scalar, vector, tensor, mixed, Spaces, no_spaces, space, scalars, scalars_of}
+use Rattle.spaces.specs.Space.{Space, scalar, vector, tensor, mixed, Spaces, no_spaces, space, scalars, scalars_of, IsLawful}
 use Rattle.ufl_tree.specs.declared.function.Function.{Function}
 use Rattle.ufl_tree.specs.Indices.{place}
 
@@ -13,6 +13,11 @@ Table = List Space
 -- the spaces of elements
 abbrev pub table_of : List ElementTree → Table
 table_of = map space_of
+
+-- each element is lawful, as those of every table of elements are
+abbrev pub IsLawfulTable : Table → Type 0
+IsLawfulTable [] = Unit {0}
+IsLawfulTable (s ∷ ss) = IsLawful s × IsLawfulTable ss
 
 -- none for a scalar; a function of a mixed element is one vector of all its components
 abbrev pub element_shape : Space → List ℕ

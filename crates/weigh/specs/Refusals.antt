@@ -1,7 +1,7 @@
 -- Which weights are refused, and which are admitted
 use Rattle.std.specs.Prelude.{◌≡◌, ℕ, ◌+◌, ◌*◌, ◌^◌, ◌≤◌, ◌<◌, nat_lt, nat_le, if◌then◌else◌, ◌||◌, Option, None, Some, ◌⊎◌, List, [], ◌∷◌}
 use Rattle.spaces.specs.Scalar.{Scalar}
-use Rattle.spaces.specs.Space.{scalars, IsLawful}
+use Rattle.spaces.specs.Space.{scalars}
 use Rattle.ufl_tree.specs.Places.{Table}
 use Rattle.ufl_tree.specs.FormTerm.{FormTerm}
 use Rattle.calculus.specs.LocalFunction.{factorial}
@@ -46,11 +46,6 @@ AreLow (p ∷ ps) = (p.degree ≤ 3) × AreLow ps
 abbrev pub HasLowDegrees : Table → Type 0
 HasLowDegrees [] = Unit {0}
 HasLowDegrees (s ∷ ss) = AreLow (scalars s) × HasLowDegrees ss
-
--- as every table of elements is
-abbrev pub IsLawfulTable : Table → Type 0
-IsLawfulTable [] = Unit {0}
-IsLawfulTable (s ∷ ss) = IsLawful s × IsLawfulTable ss
 
 -- the decision on a form in d dimensions: kept numbers refuse what exact ones do, and what is admitted has its exact weight
 pub record KeptDecides (elements : Table) (f : FormTerm) : Type 0 where
