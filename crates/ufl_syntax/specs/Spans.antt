@@ -1,5 +1,5 @@
--- What holds of each token of a tree
-use Rattle.std.specs.Prelude.{List, [], ◌∷◌, Option, Some, None}
+-- The texts of tokens, and what holds of each token of a tree
+use Rattle.std.specs.Prelude.{ℕ, List, [], ◌∷◌, Option, Some, None, take, drop}
 use Rattle.ufl_syntax.specs.declared.span.Span.{Span}
 use Rattle.ufl_syntax.specs.declared.tree.Stmt.{Stmt}
 use Rattle.ufl_syntax.specs.declared.tree.Syn.{Syn}
@@ -8,6 +8,10 @@ use Rattle.ufl_syntax.specs.declared.tree.Next.{Next, roll-Next}
 use Rattle.ufl_syntax.specs.declared.tree.Post.{Post}
 use Rattle.ufl_syntax.specs.declared.tree.Post.TheVariants as p
 use Rattle.ufl_syntax.specs.declared.tree.Arg.{Arg, roll-Arg}
+
+-- the text of a token of a file
+abbrev pub word_at : List ℕ → Span → List ℕ
+word_at file word = take word.len (drop word.from file)
 
 -- an operator with its operand, and an argument, of a token
 abbrev pub next_of : Span → Syn → Next

@@ -1,5 +1,4 @@
-use Rattle.std.proofs.Common.{◌∙◌, subst, arith}
-use Rattle.spaces.specs.Space.{IsLawful}
+use Rattle.std.proofs.Common.{◌∙◌, arith}
 use Rattle.spaces.specs.Reading.{space_of}
 use Rattle.ufl_tree.specs.Places.{table_of}
 use Rattle.ufl_expr.proofs.ElementLaws.{found_at, found_within, kept_table, number_moved, added_new, longer_new, new_number, distinct_added, lawful_added, one_more}
@@ -29,8 +28,7 @@ invariant_of-self-in-None c =
     let h = number_moved c.tree.result.now c.args.element c.as_slice.result.now c.self.inside.items _ c.tree.ensures.same c.as_slice.ensures c.in-None.ensures in
     record {
       distinct = distinct_added c.args.element c.self.inside.items c.push.new.self h c.in_ok-push-in-None.ensures.ok c.self.invariant.distinct;
-      lawful = lawful_added c.args.element c.self.inside.items c.push.new.self c.in_ok-push-in-None.ensures.ok c.self.invariant.lawful
-        (subst (λ x. IsLawful (space_of x)) c.tree.ensures.same c.tree.ensures.lawful);
+      lawful = lawful_added c.args.element c.self.inside.items c.push.new.self c.in_ok-push-in-None.ensures.ok c.self.invariant.lawful c.tree.ensures.lawful;
       few = one_more c.args.element c.self.inside.items c.args.self.now c.push.new.self c.in_ok-push-in-None.ensures.ok c.self.view_is c.requires;
     }
 
