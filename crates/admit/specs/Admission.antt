@@ -26,6 +26,10 @@ same_pairs a b = same_numbers a.zero b.zero && (same_numbers a.one b.one && same
 abbrev pub has_arity : PatternSet → Bool
 has_arity p = same_pairs p only_pair || (same_pairs p (of_role Test) || same_pairs p (product (of_role Test) (of_role Trial)))
 
+-- how many arguments a set with an arity says: that of its one pair
+abbrev pub rank_of : PatternSet → ℕ
+rank_of p = if p.zero.zero then 0 else if p.one.zero then 1 else 2
+
 abbrev pub by_weight : Weight → Option WeightRefusal → Result Weight WeightRefusal
 by_weight w None = Ok w
 by_weight w (Some r) = Err r

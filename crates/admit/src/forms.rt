@@ -8,10 +8,10 @@ ghost use Rattle.calculus.specs.LocalFunction.{factorial};
 ghost use Rattle.weigh.specs.declared.refusal.WeightRefusal.{WeightRefusal};
 ghost use Rattle.weigh.specs.Refusals.{size, weight_refusal};
 ghost use Rattle.weigh.specs.Weighing.{exact, kept, form_weight};
-ghost use Rattle.ufl_form.specs.Table.{form_kind};
+ghost use Rattle.ufl_form.specs.Table.{form_kind, form_patterns};
 ghost use Rattle.ufl_tree.specs.FormTerm.{FormTerm};
 ghost use Rattle.ufl_tree.specs.Places.{IsLawfulTable, Table};
-ghost use Rattle.admit.specs.Admission.{same_flag, same_numbers, same_pairs, has_arity, admission};
+ghost use Rattle.admit.specs.Admission.{same_flag, same_numbers, same_pairs, has_arity, rank_of, admission};
 ghost use Rattle.admit.specs.Denominators.{HasDenominators};
 
 use crate::steps::{linear, number, part, plus, product, times};
@@ -152,6 +152,27 @@ pub fn admit(form: &Form, elements: &Elements) -> Result<Weight, WeightRefusal>
     match weight_refusal(form.cell().dim(), &weight) {
         Some(refusal) => Err(refusal),
         None => Ok(weight),
+    }
+}
+
+/// The size of a weight of the form, in the dimension of its cell; one that would reach 2^127 stays at 2^127 - 1. Takes no memory.
+pub fn size(form: &Form, weight: &Weight) -> u128
+    ensures { IfOk (form_kind (form_of form.now)) (λ kind. result ≡ kept (size (dimension kind.cell) weight.now)) }
+{
+    kept_size(form.cell().dim(), weight)
+}
+
+/// The number of arguments of a form that has an arity: 0, 1 or 2. Takes no memory.
+pub fn rank(form: &Form) -> u8
+    ensures { result ≡ rank_of (form_patterns (form_of form.now)) }
+{
+    let p = patterns(form);
+    if p.zero.zero {
+        0
+    } else if p.one.zero {
+        1
+    } else {
+        2
     }
 }
 

@@ -10,4 +10,4 @@ mod functions;
 mod steps;
 mod trees;
 
-pub use forms::{admission_law, admit, weigh};
+pub use forms::{admission_law, admit, rank, size, weigh};
