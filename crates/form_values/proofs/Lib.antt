@@ -13,6 +13,7 @@ pub mod MassCase
 pub mod MassEntries
 pub mod MassLaws
 pub mod MassRows
+pub mod MassProblems
 pub mod MassRunLaws
 pub mod Parameters
 pub mod RowLaws

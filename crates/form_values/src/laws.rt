@@ -32,7 +32,7 @@ ghost use Rattle.form_values.specs.CellShares.{HaveShares, IsWhole, cell_entries
 ghost use Rattle.form_values.specs.FormValue.{AreTriples, AreCellTriples, form_value, start, start_value};
 ghost use Rattle.form_values.specs.HatFunctions.{hat_value, row_vertices};
 ghost use Rattle.form_values.specs.Linear.{HaveArguments, IsMultilinear};
-ghost use Rattle.form_values.specs.Mass.{mass_problem, no_others};
+ghost use Rattle.form_values.specs.Mass.{mass_problem, no_others, IsMassProblem};
 ghost use Rattle.form_values.specs.Problem.{Problem, IsIn, marker_of, row_count};
 ghost use Rattle.form_values.specs.Worked.{square_problem};
 ghost use Rattle.form_values.specs.MassMatrix.{HasMatrix, Refuses};
@@ -111,6 +111,17 @@ pub fn mass_case()
         → (row col : ℕ) → hat_value m (fraction_of c) row col ≡ form_value (mass_problem c m) row col }
     ensures rows { (c : Ratio) (m : MeshData Fraction) → m.kind ≡ Interval → IsMesh m
         → row_count (mass_problem c m) (mass_problem c m).test ≡ length (row_vertices m) }
+{}
+
+/// The form has these values, rows and columns in each problem in which it stands, whatever else the tables of elements and
+/// of coefficients have.
+pub fn mass_problems()
+    ensures values { (p : Problem) (c : Ratio) → IsMassProblem p c
+        → (row col : ℕ) → form_value p row col ≡ form_value (mass_problem c p.mesh) row col }
+    ensures rows { (p : Problem) (c : Ratio) → IsMassProblem p c
+        → row_count p p.test ≡ row_count (mass_problem c p.mesh) (mass_problem c p.mesh).test }
+    ensures columns { (p : Problem) (c : Ratio) → IsMassProblem p c
+        → row_count p p.trial ≡ row_count (mass_problem c p.mesh) (mass_problem c p.mesh).trial }
 {}
 
 /// Worked: on the cells from 0 to 1, with marker 0, and from 3 to 1, with marker 1, the form `x[0]*x[0]*dx(1)` has
