@@ -1,0 +1,4 @@
+pub mod CallLaws
+pub mod GroupLaws
+pub mod ItemReadings
+pub mod MadeLaws
