@@ -1,0 +1,10 @@
+pub mod StepLaws
+pub mod TreeLaws
+pub mod FormLaws
+pub mod Parts
+pub mod OperatorLaws
+pub mod CallLaws
+pub mod MadeLaws
+pub mod NameLaws
+pub mod EvaluationLaws
+pub mod ProgramLaws
