@@ -59,8 +59,8 @@ pub data IsMassIntegrand : Typed → Ratio → ℕ → Type 0 where
       → IsMassIntegrand (two (scalar_with x) Product (function (scalar_with y) (trial_of e)) (function (scalar_with z) (test_of e))) c e
   scaled : (v w x y z : Option Cell) (c : Ratio) (e : ℕ)
       → IsMassIntegrand (two (scalar_with v) Product
-          (two (scalar_with w) Product (number (scalar_with x) c) (function (scalar_with y) (trial_of e)))
-          (function (scalar_with z) (test_of e))) c e
+      (two (scalar_with w) Product (number (scalar_with x) c) (function (scalar_with y) (trial_of e)))
+      (function (scalar_with z) (test_of e))) c e
 
 -- the form is the integral of such over all cells, and the element is the linear one on intervals, wherever it stands in
 -- the table

@@ -1,0 +1,3 @@
+pub mod FileProgram
+pub mod Admissions
+pub mod Checks
