@@ -17,7 +17,8 @@ abbrev pub entry_line : Entry → List ℕ
 entry_line e = joined (decimal e.row ∷ codes " " ∷ decimal e.col ∷ codes " " ∷ text_of e.value ∷ codes "\n" ∷ [])
 
 abbrev pub header_line : List ℕ → ℕ → ℕ → List ℕ
-header_line name rows cols = joined (codes "form " ∷ name ∷ codes " rank 2 rows " ∷ decimal rows ∷ codes " columns " ∷ decimal cols ∷ codes "\n" ∷ [])
+header_line name rows cols =
+    joined (codes "form " ∷ name ∷ codes " rank 2 rows " ∷ decimal rows ∷ codes " columns " ∷ decimal cols ∷ codes "\n" ∷ [])
 
 -- the header, and a line for each entry
 abbrev pub matrix_text : List ℕ → ℕ → ℕ → List Entry → List ℕ
@@ -26,7 +27,8 @@ matrix_text name rows cols entries = header_line name rows cols ++ flat_map entr
 -- the sums of all rows stand behind the old text, as a matrix with so many columns
 abbrev pub GainsMatrix : List ℕ → LentRows → ℕ → List ℕ → List ℕ → Type 0
 GainsMatrix name rows cols old new =
-    (entries : List Entry) × AreSums (lent_entries rows) entries × (new ≡ old ++ matrix_text name (lent_count rows) cols entries)
+    (entries : List Entry) × AreSums (lent_entries rows) entries
+    × (new ≡ old ++ matrix_text name (lent_count rows) cols entries)
 
 -- why they don't: the first entry whose values can't be added up, or no memory
 abbrev pub SumRefusal : List Entry → RunRefusal → Type 0

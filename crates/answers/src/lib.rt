@@ -1,5 +1,5 @@
-//! How a run of the program ends, and what it says: outcomes and their statuses, the line on err of each, and the text of a
-//! matrix.
+//! How a run of the program ends, and what it says: outcomes and their statuses, the line on err of each, and the text of
+//! a matrix.
 #![tactic(auto)]
 
 mod lines;
@@ -8,4 +8,4 @@ mod outcome;
 
 pub use lines::put_outcome;
 pub use matrix_text::push_matrix;
-pub use outcome::{FormKind, FormRefusal, Outcome, Spot};
+pub use outcome::{FormName, Outcome, Spot};

@@ -37,11 +37,11 @@ fn push_count(text: &mut Vec<u8>, words: &[u8], count: u32) -> Result<(), AllocE
 }
 
 // `form NAME rank 2 rows M columns N`
-fn push_header(text: &mut Vec<u8>, name: &str, rows: u32, cols: u32) -> Result<(), AllocError>
+fn push_header(text: &mut Vec<u8>, name: &[u8], rows: u32, cols: u32) -> Result<(), AllocError>
     ensures { OnOk result (text.new.items ≡ text.old.items ++ header_line name.now rows cols) }
 {
     text.extend_from_slice(b"form ")?;
-    text.extend_from_slice(name.as_bytes())?;
+    text.extend_from_slice(name)?;
     push_count(text, b" rank 2 rows ", rows)?;
     push_count(text, b" columns ", cols)?;
     text.extend_from_slice(b"\n")?;
@@ -58,13 +58,13 @@ fn push_entries(text: &mut Vec<u8>, triples: &[Triple]) -> Result<(), AllocError
     Ok(())
 }
 
-/// Appends the text of the matrix whose rows are lent: the header, with as many columns as are given, and a line for each
-/// entry. Each row is written as it is lent.
+/// Appends the text of the matrix whose rows are lent: the header, with as many columns as are given, and a line for
+/// each entry. Each row is written as it is lent.
 ///
 /// At a refusal only a part of the text was appended.
 pub fn push_matrix(
     text: &mut Vec<u8>,
-    name: &str,
+    name: &[u8],
     cols: u32,
     rows: &mut Rows<'_>,
 ) -> Result<(), RunRefusal>

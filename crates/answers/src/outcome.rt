@@ -6,22 +6,15 @@ ghost use Rattle.answers.specs.declared.outcome.Outcome.TheVariants.{Memory, Mes
 use assembly::RunRefusal;
 use mesh_in::{MeshKind, MeshRefusal};
 use std::alloc::AllocError;
+use ufl_read::{FormKind, FormRefusal};
 
-/// Why a form file is refused, by the numbers of its refusals.
+/// The name of an exported form: the line of its last assignment, counted from 1, and the name's place in the file and its
+/// length in bytes.
 #[derive(Clone, Copy, Debug, PartialEq, Eq)]
-pub enum FormKind {
-    /// 1: the file has more than 262,144 bytes.
-    TooLong,
-    /// 16: the form is none that the program can compile yet.
-    NotYet,
-}
-
-/// A refusal of a form file.
-#[derive(Clone, Copy, Debug, PartialEq, Eq)]
-pub struct FormRefusal {
-    pub kind: FormKind,
-    /// Counted from 1; 0 where no line is to blame.
+pub struct FormName {
     pub line: u32,
+    pub from: u32,
+    pub len: u32,
 }
 
 /// Where the numbers of a run passed 127 bits.
@@ -41,6 +34,8 @@ pub enum Outcome {
     /// The words have none of the shapes.
     Usage,
     Form(FormRefusal),
+    /// The form of this name is none that the program can compile yet.
+    NotYet(FormName),
     Mesh(MeshRefusal),
     Passed(Spot),
     /// A file could not be read: 1 is that of the form, 2 that of the mesh.
@@ -58,7 +53,7 @@ impl Outcome {
         match self {
             Outcome::Done => 0,
             Outcome::Usage => 2,
-            Outcome::Form(_) => 3,
+            Outcome::Form(_) | Outcome::NotYet(_) => 3,
             Outcome::Mesh(_) => 4,
             Outcome::Passed(_) => 7,
             Outcome::ReadFault(_) => 8,
@@ -73,6 +68,19 @@ impl From<AllocError> for Outcome {
 
     fn from(_error: AllocError) -> Outcome {
         Outcome::Memory
+    }
+}
+
+impl From<FormRefusal> for Outcome {
+    ghost use Rattle.answers.specs.Outcome.{form_outcome};
+
+    ghost from_gives = { λ r o. o ≡ form_outcome r };
+
+    fn from(refusal: FormRefusal) -> Outcome {
+        match refusal.kind {
+            FormKind::Memory => Outcome::Memory,
+            _ => Outcome::Form(refusal),
+        }
     }
 }
 

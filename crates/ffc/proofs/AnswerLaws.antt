@@ -1,57 +1,139 @@
--- From the run to the outcome
-use Rattle.std.proofs.Common.{◌≡◌, ℕ, List, [], ◌∷◌, codes, Option, refl, subst, inl, inr}
-use Rattle.ratio.specs.Value.{fraction_of}
-use Rattle.ratio.specs.declared.reduced.Ratio.{Ratio}
-use Rattle.algebra.specs.Fraction.{Fraction}
+-- From the form file of a command to its words
+use Rattle.std.proofs.Common.{◌≡◌, ◌≢◌, ℕ, ◌+◌, inl, inr, List, [], ◌∷◌, codes, length, take, Option, refl, sym, ap, ◌∙◌, subst}
 use Rattle.ends.specs.Held.{Held}
-use Rattle.mesh_in.specs.MeshData.{MeshData}
-use Rattle.form_values.specs.MassMatrix.{Refuses}
-use Rattle.assembly.specs.declared.run_refusal.RunRefusal.{RunRefusal}
-use Rattle.ffc.specs.Inputs.{Loads, loads, HasForm, HasMesh, MeshCause}
-use Rattle.ffc.specs.Assemble.{AssembleCause, IsMatrixText}
-use Rattle.ffc.specs.Answer.{AnswersWords, HasCause}
-use Rattle.answers.specs.Outcome.{run_outcome}
-use Rattle.ffc.specs.Words.{assemble_words}
+use Rattle.slices.specs.declared.form_toks.TheConstants.{FORM_LIMIT}
 use Rattle.answers.specs.declared.outcome.Outcome.{Outcome}
+use Rattle.answers.specs.declared.outcome.Outcome.TheVariants.{Done, Usage, Form, NotYet, Mesh, Passed, ReadFault, WriteFault, Memory}
+use Rattle.ffc.specs.declared.command.Command.{Command}
+use Rattle.ffc.specs.declared.command.Command.TheVariants.{Compile, Check, Assemble}
+use Rattle.ffc.specs.Answer.{AnswersFile, AnswersWords, FileCause, FormCause, HasCause, IsFormOf, IsLoaded, Wrote}
+use Rattle.ffc.specs.Assemble.{AssembleCause, IsMatrixText}
+use Rattle.ffc.specs.Command.{words_of, form_of_command}
+use Rattle.ffc.specs.Inputs.{Loads, loads, IsText, LoadCause}
+use Rattle.ffc.specs.Words.{compile_words, check_words}
+use Rattle.ffc.proofs.FileLaws.{loaded_answer, loaded_cause}
 
--- ---- causes
+-- ---- words of different shapes
+same_two : (v x y : List ℕ) → v ∷ x ∷ [] ≡ v ∷ y ∷ [] → x ≡ y
+same_two v x y h = cc
 
-pub same_mesh : (content other : Option (List Held)) (mesh : List ℕ) (m : MeshData Fraction) → other ≡ content → HasMesh other mesh m → HasMesh content mesh m
-same_mesh content other mesh m e h = subst (λ (k : Option (List Held)). HasMesh k mesh m) e h
+same_form : (a b c d e b' c' d' : List ℕ) → a ∷ b ∷ c ∷ d ∷ e ∷ [] ≡ a ∷ b' ∷ c' ∷ d' ∷ e ∷ [] → b ≡ b'
+same_form a b c d e b' c' d' h = cc
 
--- why there is no matrix
-pub run_cause : (l : Loads) (form mesh : List ℕ) (c : Ratio) (m : MeshData Fraction) (e : RunRefusal) → HasForm l.content form (fraction_of c) → HasMesh l.content mesh m → Refuses m c e
-    → AssembleCause l form mesh (run_outcome e)
-run_cause l form mesh c m e h k r = inr (c, h, inr (m, k, (e, refl, r)))
+same_name : (a b c d e b' c' d' : List ℕ) → a ∷ b ∷ c ∷ d ∷ e ∷ [] ≡ a ∷ b' ∷ c' ∷ d' ∷ e ∷ [] → c ≡ c'
+same_name a b c d e b' c' d' h = cc
 
--- why there is no mesh, where the form was loaded without a fault
-pub mesh_cause : (content other : Option (List Held)) (before old now : ℕ) (failed form mesh : List ℕ) (c : Ratio) (o : Outcome) → other ≡ content → old ≡ before → HasForm content form (fraction_of c)
-    → MeshCause (loads other old now failed) mesh o → AssembleCause (loads content before now failed) form mesh o
-mesh_cause content other before old now failed form mesh c o e f h k =
-    inr (c, h, inl (subst (λ (b : ℕ). MeshCause (loads content b now failed) mesh o) f (subst (λ (x : Option (List Held)). MeshCause (loads x old now failed) mesh o) e k)))
+same_mesh_name : (a b c d e b' c' d' : List ℕ) → a ∷ b ∷ c ∷ d ∷ e ∷ [] ≡ a ∷ b' ∷ c' ∷ d' ∷ e ∷ [] → d ≡ d'
+same_mesh_name a b c d e b' c' d' h = cc
 
--- ---- the cause of the words
+two_five : (a b c d e x y : List ℕ) → x ∷ y ∷ [] ≡ a ∷ b ∷ c ∷ d ∷ e ∷ [] → ⊥
+two_five a b c d e x y h = cc
 
-same_names : (a b c d e b' d' : List ℕ) → a ∷ b ∷ c ∷ d ∷ e ∷ [] ≡ a ∷ b' ∷ c ∷ d' ∷ e ∷ [] → (b ≡ b') × (d ≡ d')
-same_names a b c d e b' d' h = (cc, cc)
+first_word : (v w x y : List ℕ) → v ∷ x ∷ [] ≡ w ∷ y ∷ [] → v ≡ w
+first_word v w x y h = cc
 
-two_words : (a b c d e x y : List ℕ) → a ∷ b ∷ c ∷ d ∷ e ∷ [] ≡ x ∷ y ∷ [] → ⊥
-two_words a b c d e x y h = cc
+other_lengths : (v w : List ℕ) → length v ≢ length w → v ≡ w → ⊥
+other_lengths v w h e = h (ap length e)
 
-pub assembled : (l : Loads) (form mesh : List ℕ) (o : Outcome) → AssembleCause l form mesh o → HasCause l (assemble_words form mesh) o
-assembled l form mesh o h = record {
-  compile = λ f e. absurd (two_words (codes "assemble") form (codes "a") mesh (codes "-") (codes "compile") f e);
-  assemble = λ f m e.
-      let same = same_names (codes "assemble") form (codes "a") mesh (codes "-") f m e in
-      subst (λ (x : List ℕ). AssembleCause l x m o) same.0 (subst (λ (x : List ℕ). AssembleCause l form x o) same.1 h);
-}
+verbs_differ : (x y : List ℕ) → compile_words x ≡ check_words y → ⊥
+verbs_differ x y h = other_lengths (codes "compile") (codes "check") (λ e. cc) (first_word (codes "compile") (codes "check") x y h)
 
--- ---- the text
+-- ---- answers and causes of words
+module _ (content : Option (List Held)) (file text : List ℕ) where
+  pub answered : (command : Command) → IsText content (form_of_command command) file → AnswersFile content command file text → AnswersWords content (words_of command) text
+  answered (Compile form) is h = record {
+    compile = λ f e. (file, subst (λ x. IsText content x file) (same_two (codes "compile") form.now f e) is, h);
+    check = λ f e. absurd (verbs_differ form.now f e);
+    assemble = λ f n m e. absurd (two_five (codes "assemble") f n m (codes "-") (codes "compile") form.now e);
+  }
+  answered (Check form) is h = record {
+    compile = λ f e. absurd (verbs_differ f form.now (sym e));
+    check = λ f e. (file, subst (λ x. IsText content x file) (same_two (codes "check") form.now f e) is, h);
+    assemble = λ f n m e. absurd (two_five (codes "assemble") f n m (codes "-") (codes "check") form.now e);
+  }
+  answered (Assemble form name mesh) is h = record {
+    compile = λ f e. absurd (two_five (codes "assemble") form.now name.now mesh.now (codes "-") (codes "compile") f (sym e));
+    check = λ f e. absurd (two_five (codes "assemble") form.now name.now mesh.now (codes "-") (codes "check") f (sym e));
+    assemble = λ f n m e. (
+      file,
+      subst (λ x. IsText content x file) (same_form (codes "assemble") form.now name.now mesh.now (codes "-") f n m e) is,
+      subst (λ x. IsMatrixText content file x m text) (same_name (codes "assemble") form.now name.now mesh.now (codes "-") f n m e)
+          (subst (λ x. IsMatrixText content file name.now x text) (same_mesh_name (codes "assemble") form.now name.now mesh.now (codes "-") f n m e) h),
+    );
+  }
 
-pub answered : (content : Option (List Held)) (form mesh text : List ℕ) → IsMatrixText content form mesh text → AnswersWords content (assemble_words form mesh) text
-answered content form mesh text h = record {
-  compile = λ f e. absurd (two_words (codes "assemble") form (codes "a") mesh (codes "-") (codes "compile") f e);
-  assemble = λ f m e.
-      let same = same_names (codes "assemble") form (codes "a") mesh (codes "-") f m e in
-      subst (λ (x : List ℕ). IsMatrixText content x m text) same.0 (subst (λ (x : List ℕ). IsMatrixText content form x text) same.1 h);
-}
+module _ (l : Loads) (o : Outcome) where
+  pub caused : (command : Command) → FormCause l (form_of_command command) o (λ file. FileCause l command file o) → HasCause l (words_of command) o
+  caused (Compile form) h = record {
+    compile = λ f e. subst (λ x. FormCause l x o (λ file. FileCause l (Compile form) file o)) (same_two (codes "compile") form.now f e) h;
+    check = λ f e. absurd (verbs_differ form.now f e);
+    assemble = λ f n m e. absurd (two_five (codes "assemble") f n m (codes "-") (codes "compile") form.now e);
+  }
+  caused (Check form) h = record {
+    compile = λ f e. absurd (verbs_differ f form.now (sym e));
+    check = λ f e. subst (λ x. FormCause l x o (λ file. FileCause l (Check form) file o)) (same_two (codes "check") form.now f e) h;
+    assemble = λ f n m e. absurd (two_five (codes "assemble") f n m (codes "-") (codes "check") form.now e);
+  }
+  caused (Assemble form name mesh) h = record {
+    compile = λ f e. absurd (two_five (codes "assemble") form.now name.now mesh.now (codes "-") (codes "compile") f (sym e));
+    check = λ f e. absurd (two_five (codes "assemble") form.now name.now mesh.now (codes "-") (codes "check") f (sym e));
+    assemble = λ f n m e.
+        subst (λ x. FormCause l f o (λ file. AssembleCause l file x m o)) (same_name (codes "assemble") form.now name.now mesh.now (codes "-") f n m e)
+        (subst (λ x. FormCause l f o (λ file. AssembleCause l file name.now x o)) (same_mesh_name (codes "assemble") form.now name.now mesh.now (codes "-") f n m e)
+        (subst (λ x. FormCause l x o (λ file. AssembleCause l file name.now mesh.now o)) (same_form (codes "assemble") form.now name.now mesh.now (codes "-") f n m e) h));
+  }
+
+-- ---- what is loaded
+pub is_form_of : (command : Command) → IsFormOf (words_of command) (form_of_command command)
+is_form_of (Compile form) = inl refl
+is_form_of (Check form) = inr (inl refl)
+is_form_of (Assemble form name mesh) = inr (inr (name.now, mesh.now, refl))
+
+pub loaded_words : (content : Option (List Held)) (command : Command) (text file : List ℕ) → IsText content (form_of_command command) text → take (FORM_LIMIT + 1) text ≡ file
+    → IsLoaded content (words_of command) file
+loaded_words content command text file is e = (form_of_command command, text, is_form_of command, is, e)
+
+-- what was loaded answers the words, and its refusal is that of the words
+pub answered_words : (content : Option (List Held)) (command : Command) (text file out : List ℕ) → IsText content (form_of_command command) text → take (FORM_LIMIT + 1) text ≡ file
+    → AnswersFile content command file out → AnswersWords content (words_of command) out
+answered_words content command text file out is e h = answered content text out command is (loaded_answer content command text file out e h)
+
+pub caused_words : (l : Loads) (command : Command) (text file : List ℕ) (o : Outcome) → IsText l.content (form_of_command command) text → take (FORM_LIMIT + 1) text ≡ file
+    → FileCause l command file o → HasCause l (words_of command) o
+caused_words l command text file o is e h = caused l o command (inr (text, is, loaded_cause l command text file o e h))
+
+pub unloaded_words : (l : Loads) (command : Command) (o : Outcome) → LoadCause l 1 (form_of_command command) o → HasCause l (words_of command) o
+unloaded_words l command o h = caused l o command (inl h)
+
+-- ---- runs
+-- what was loaded without a fault, and then answered or refused
+module _ (content other : Option (List Held)) (command : Command) (name text bytes file : List ℕ) (told : other ≡ content) (named : name ≡ form_of_command command)
+    (is : IsText content name text) (front : take (FORM_LIMIT + 1) text ≡ bytes) (lent : file ≡ bytes) where
+  is_text : IsText content (form_of_command command) text
+  is_text = subst (λ n. IsText content n text) named is
+
+  is_front : take (FORM_LIMIT + 1) text ≡ file
+  is_front = front ∙ sym lent
+
+  pub run_cause : (before old now : ℕ) (failed : List ℕ) (o : Outcome) → old ≡ before → FileCause (loads other old now failed) command file o
+      → HasCause (loads content before now failed) (words_of command) o
+  run_cause before old now failed o same h =
+      caused_words (loads content before now failed) command text file o is_text is_front
+      (subst (λ b. FileCause (loads content b now failed) command file o) same (subst (λ k. FileCause (loads k old now failed) command file o) told h))
+
+  pub run_answer : (out : List ℕ) → AnswersFile other command file out → AnswersWords content (words_of command) out
+  run_answer out h = answered_words content command text file out is_text is_front (subst (λ k. AnswersFile k command file out) told h)
+
+  pub run_loaded : IsLoaded content (words_of command) file
+  run_loaded = loaded_words content command text file is_text is_front
+
+pub wrote_more : (o : Outcome) (old new : Option (List ℕ)) (P Q : List ℕ → Type 0) → ((out : List ℕ) → P out → Q out) → Wrote o old new P → Wrote o old new Q
+wrote_more Done old new P Q f (out, p, e) = (out, f out p, e)
+wrote_more WriteFault old new P Q f (out, p, e) = (out, f out p, e)
+wrote_more Usage old new P Q f e = e
+wrote_more Memory old new P Q f e = e
+wrote_more (Form r) old new P Q f e = e
+wrote_more (NotYet n) old new P Q f e = e
+wrote_more (Mesh r) old new P Q f e = e
+wrote_more (Passed s) old new P Q f e = e
+wrote_more (ReadFault k) old new P Q f e = e

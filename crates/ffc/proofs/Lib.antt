@@ -1,9 +1,10 @@
 pub mod MatrixLaws
-pub mod FactorLaws
 pub mod FitLaws
-pub mod FormLaws
 pub mod WordsLaws
 pub mod LoadLaws
+pub mod FileLaws
+pub mod MassFormLaws
+pub mod FormsLaws
 pub mod AnswerLaws
 pub mod CompleteLaws
 pub mod UnitLaws

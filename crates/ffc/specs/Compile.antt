@@ -1,13 +1,19 @@
--- The text of the form's kernel
-use Rattle.std.specs.Prelude.{◌≡◌, ℕ, List, Option}
-use Rattle.algebra.specs.Fraction.{Fraction}
-use Rattle.ends.specs.Held.{Held}
+-- The text of the kernels of a file's forms
+use Rattle.std.specs.Prelude.{◌≡◌, ◌≢◌, ℕ, List, [], Ok}
 use Rattle.c_unit.specs.declared.unit.CUnit.{CUnit}
 use Rattle.c_text.specs.Layout.{canonical}
 use Rattle.c_text.specs.Lawful.{MeetsRules}
-use Rattle.ffc.specs.Inputs.{HasForm}
-use Rattle.ffc.specs.Unit.{IsMassUnit}
+use Rattle.ufl_elab.specs.declared.program.UflProgram.{UflProgram}
+use Rattle.form_files.specs.Admissions.{IsFileOf}
+use Rattle.ffc.specs.Unit.{AreFunctionsOf, AreNames}
 
--- the text is the canonical one of the unit of the form with its factor; the unit is lawful, so the text is read back as it
-abbrev pub IsUnitText : Option (List Held) → List ℕ → List ℕ → Type 0
-IsUnitText content form text = (c : Fraction) × HasForm content form c × ((u : CUnit) × IsMassUnit c u × MeetsRules u × (text ≡ canonical u))
+-- The file exports a form, and the text is the canonical one of the unit with a function for each. The names of the forms
+-- are names of C; so the unit is lawful, and the text is read back as it.
+pub record IsUnitText (file text : List ℕ) : Type 0 where
+  pub program : UflProgram
+  pub unit : CUnit
+  pub says : IsFileOf file (Ok program)
+  pub some : program.forms ≢ []
+  pub functions : AreFunctionsOf file program program.forms unit.funs
+  pub lawful : AreNames file program.forms → MeetsRules unit
+  pub text_is : text ≡ canonical unit

@@ -1,20 +1,15 @@
--- The form and the mesh that the files hold, and why there is none
-use Rattle.std.specs.Prelude.{◌≡◌, ◌⊎◌, ◌<◌, ◌≤◌, ℕ, List, Option, Some, None, Ok, Err, length}
+-- The texts that the files hold, the mesh, and why there is none
+use Rattle.std.specs.Prelude.{◌≡◌, ◌⊎◌, ℕ, List, Option, Some, None, Ok, Err}
 use Rattle.algebra.specs.Fraction.{Fraction}
 use Rattle.ends.specs.Count.{Rises}
 use Rattle.ends.specs.Held.{Held, bytes_of}
-use Rattle.slices.specs.declared.form_toks.TheConstants.{FORM_LIMIT}
 use Rattle.spaces.specs.declared.cell.Cell.TheVariants.{Interval}
 use Rattle.mesh_in.specs.MeshData.{MeshData}
 use Rattle.mesh_in.specs.MeshText.{meaning}
 use Rattle.mesh_in.specs.declared.refusal.MeshRefusal.{MeshRefusal}
-use Rattle.ffc.specs.FormFile.{IsForm, IsNoForm, IsOff}
 use Rattle.mesh_in.specs.HeaderLine.{IsWrongCell}
-use Rattle.answers.specs.declared.outcome.FormKind.{FormKind}
-use Rattle.answers.specs.declared.outcome.FormRefusal.{FormRefusal}
-use Rattle.answers.specs.declared.outcome.FormKind.TheVariants as form
 use Rattle.answers.specs.declared.outcome.Outcome.{Outcome}
-use Rattle.answers.specs.declared.outcome.Outcome.TheVariants.{Form, Mesh, ReadFault, Memory}
+use Rattle.answers.specs.declared.outcome.Outcome.TheVariants.{Mesh, ReadFault, Memory}
 
 -- ---- files
 
@@ -36,28 +31,6 @@ IsText (Some files) name text = bytes_of files name ≡ Some text
 -- why the file with this number was not loaded: there was a fault, and its name is the last failed one; or memory was wanting
 abbrev pub LoadCause : Loads → ℕ → List ℕ → Outcome → Type 0
 LoadCause l file name o = (o ≡ Memory) ⊎ ((o ≡ ReadFault file) × Rises l.before l.now × (l.failed ≡ name))
-
--- ---- the form: file 1
-
--- a form that can be compiled, with this factor, in a file that isn't too long
-pub record IsFormFile (text : List ℕ) (c : Fraction) : Type 0 where
-  pub short : length text ≤ FORM_LIMIT
-  pub states : IsForm text c
-
--- the file with this name is such a form, with this factor and no other
-abbrev pub HasForm : Option (List Held) → List ℕ → Fraction → Type 0
-HasForm content name c = (text : List ℕ) × IsText content name text × IsFormFile text c × ((d : Fraction) → IsForm text d → c ≡ d)
-
--- when a form is refused: it is too long, or else no form that can be compiled, and this line isn't as it is required
-abbrev pub FormRefuses : FormKind → ℕ → List ℕ → Type 0
-FormRefuses form.TooLong line text = (FORM_LIMIT < length text) × (line ≡ 0)
-FormRefuses form.NotYet line text = (length text ≤ FORM_LIMIT) × IsNoForm text × IsOff line text
-
--- why there is no form: its file was not loaded, or is refused
-abbrev pub FormCause : Loads → List ℕ → Outcome → Type 0
-FormCause l name o =
-    LoadCause l 1 name o
-    ⊎ ((r : FormRefusal) × (text : List ℕ) × (o ≡ Form r) × IsText l.content name text × FormRefuses r.kind r.line text)
 
 -- ---- the mesh: file 2
 

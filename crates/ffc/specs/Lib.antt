@@ -1,5 +1,6 @@
 pub mod Words
-pub mod FormFile
+pub mod MassForm
+pub mod Forms
 pub mod Unit
 pub mod Inputs
 pub mod Assemble

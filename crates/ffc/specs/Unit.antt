@@ -1,17 +1,25 @@
--- The unit that is printed for the form `c*u*v*dx`
-use Rattle.std.specs.Prelude.{◌≡◌, ◌≤◌, [], ◌∷◌, codes}
+-- The unit that is printed for the forms of a file
+use Rattle.std.specs.Prelude.{◌≡◌, ◌≢◌, ◌≤◌, ◌⊎◌, ℕ, List, [], ◌∷◌, ◌++◌, true, codes}
 use Rattle.algebra.specs.Fraction.{Fraction}
+use Rattle.ratio.specs.declared.reduced.Ratio.{Ratio}
+use Rattle.ratio.specs.Value.{fraction_of}
+use Rattle.c_text.specs.Lawful.{all_inside}
 use Rattle.c_unit.specs.declared.unit.CFun.{CFun}
-use Rattle.c_unit.specs.declared.unit.CUnit.{CUnit}
 use Rattle.c_unit.specs.Meaning.{ran, counted_list}
 use Rattle.c_unit.specs.Rules.{KeepsSizes}
 use Rattle.kernel.specs.MassShare.{outcome, mass_outcome}
+use Rattle.ufl_elab.specs.declared.program.Named.{Named}
+use Rattle.ufl_elab.specs.declared.program.UflProgram.{UflProgram}
+use Rattle.form_files.specs.Checks.{name_of}
+use Rattle.answers.specs.declared.outcome.Outcome.{Outcome}
+use Rattle.answers.specs.declared.outcome.Outcome.TheVariants.{Memory}
+use Rattle.ffc.specs.Forms.{IsMassForm, CannotCompile, not_yet}
 
--- The function of the form `a`. Its run on a cell gives the shares of the cell, or returns 2 where the difference of the
--- coordinates fits and is 0, or 1 where a number that the kernel forms passes: that difference, or a share. It keeps within
--- its arrays and makes at most 224 statements.
-pub record IsMassFunction (c : Fraction) (f : CFun) : Type 0 where
-  pub name : f.name ≡ codes "ffc_a"
+-- The function of the form c*u*v*dx with a name. Its run on a cell gives the shares of the cell, or returns 2 where the
+-- difference of the coordinates fits and is 0, or 1 where a number that the kernel forms passes: that difference, or a
+-- share. It keeps within its arrays and makes at most 224 statements.
+pub record IsMassFunction (name : List ℕ) (c : Fraction) (f : CFun) : Type 0 where
+  pub name_is : f.name ≡ codes "ffc_" ++ name
   pub x : f.x ≡ 2
   pub w : f.w ≡ 0
   pub a : f.a ≡ 4
@@ -19,6 +27,31 @@ pub record IsMassFunction (c : Fraction) (f : CFun) : Type 0 where
   pub bound : counted_list f.body ≤ 224
   pub sizes : KeepsSizes f
 
--- this function alone
-abbrev pub IsMassUnit : Fraction → CUnit → Type 0
-IsMassUnit c u = (f : CFun) × (u.funs ≡ f ∷ []) × IsMassFunction c f
+abbrev pub IsFunctionOf : List ℕ → UflProgram → Named → CFun → Type 0
+IsFunctionOf file p n f = (c : Ratio) × IsMassForm p n c × IsMassFunction (name_of file n) (fraction_of c) f
+
+-- why a form has none
+abbrev pub FunctionRefused : UflProgram → Named → Outcome → Type 0
+FunctionRefused p n o = (o ≡ Memory) ⊎ (CannotCompile p n × (o ≡ not_yet n))
+
+-- one for each form, in order
+abbrev pub AreFunctionsOf : List ℕ → UflProgram → List Named → List CFun → Type 0
+AreFunctionsOf file p [] [] = Unit {0}
+AreFunctionsOf file p (n ∷ ns) (f ∷ fs) = IsFunctionOf file p n f × AreFunctionsOf file p ns fs
+AreFunctionsOf file p [] (f ∷ fs) = ⊥
+AreFunctionsOf file p (n ∷ ns) [] = ⊥
+
+-- ---- names
+abbrev pub IsNew : List ℕ → List (List ℕ) → Type 0
+IsNew name [] = Unit {0}
+IsNew name (x ∷ xs) = (x ≢ name) × IsNew name xs
+
+-- the names of the forms consist of letters and digits, and none is among those before it
+abbrev pub AreNamesFrom : List ℕ → List (List ℕ) → List Named → Type 0
+AreNamesFrom file earlier [] = Unit {0}
+AreNamesFrom file earlier (n ∷ ns) =
+    (all_inside (name_of file n) ≡ true) × IsNew (name_of file n) earlier
+    × AreNamesFrom file (earlier ++ name_of file n ∷ []) ns
+
+abbrev pub AreNames : List ℕ → List Named → Type 0
+AreNames file ns = AreNamesFrom file [] ns

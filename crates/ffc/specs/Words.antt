@@ -10,10 +10,16 @@ texts words = map string_bytes words
 abbrev pub compile_words : List ℕ → List (List ℕ)
 compile_words form = codes "compile" ∷ form ∷ []
 
--- assemble FORM a MESH -
-abbrev pub assemble_words : List ℕ → List ℕ → List (List ℕ)
-assemble_words form mesh = codes "assemble" ∷ form ∷ codes "a" ∷ mesh ∷ codes "-" ∷ []
+-- check FORM
+abbrev pub check_words : List ℕ → List (List ℕ)
+check_words form = codes "check" ∷ form ∷ []
+
+-- assemble FORM NAME MESH -
+abbrev pub assemble_words : List ℕ → List ℕ → List ℕ → List (List ℕ)
+assemble_words form name mesh = codes "assemble" ∷ form ∷ name ∷ mesh ∷ codes "-" ∷ []
 
 -- none of the shapes
-abbrev pub HaveNoShape : List (List ℕ) → Type 0
-HaveNoShape words = ((form : List ℕ) → words ≡ compile_words form → ⊥) × ((form mesh : List ℕ) → words ≡ assemble_words form mesh → ⊥)
+pub record HaveNoShape (words : List (List ℕ)) : Type 0 where
+  pub compile : (form : List ℕ) → words ≡ compile_words form → ⊥
+  pub check : (form : List ℕ) → words ≡ check_words form → ⊥
+  pub assemble : (form name mesh : List ℕ) → words ≡ assemble_words form name mesh → ⊥

@@ -3,26 +3,28 @@ ghost use Rattle.std.specs.Prelude.{IfOk, IfErr};
 ghost use Rattle.ffc.specs.Inputs.{loads};
 ghost use Rattle.ffc.specs.Assemble.{AssembleCause, IsMatrixText};
 
-use crate::inputs::{load_form, load_mesh};
+use crate::forms::form_of_name;
+use crate::inputs::load_mesh;
 use crate::matrix::mass_text;
 use answers::Outcome;
 use ends::files::Files;
 use std::alloc::Global;
 
-/// The text of the matrix of the form on the mesh. The form is loaded first: nothing is said of a mesh before the form
-/// is accepted.
+/// The text of the matrix of the form of a name on the mesh. Nothing is said of a mesh before the form is accepted.
 pub fn assemble<F: Files>(
     alloc: Global,
     files: &mut F,
-    form: &str,
+    file: &[u8],
+    name: &str,
     mesh: &str,
 ) -> Result<Vec<u8>, Outcome>
-    ensures ok { IfOk result (λ text. IsMatrixText (F.content files.old) form.now mesh.now text.items) }
+    ensures text { IfOk result (λ text. IsMatrixText (F.content files.old) file.now name.now mesh.now text.items) }
     ensures cause { IfErr result (AssembleCause (loads (F.content files.old) (F.faults files.old)
-        (F.faults files.new) (F.last_failed files.new)) form.now mesh.now) }
+        (F.faults files.new) (F.last_failed files.new)) file.now name.now mesh.now) }
 {
-    let factor = load_form(alloc, files, form)?;
+    let name = name.as_bytes();
+    let factor = form_of_name(alloc, file, name)?;
     let mesh = load_mesh(alloc, files, mesh)?;
-    let text = mass_text(alloc, factor, &mesh)?;
+    let text = mass_text(alloc, name, factor, &mesh)?;
     Ok(text)
 }

@@ -1,16 +1,12 @@
 //! The form and the mesh that a command names.
 ghost use Rattle.std.specs.Prelude.{◌≡◌, ◌+◌, ◌<◌, ◌^◌, ℕ, List, take, OnOk, IfOk, IfErr};
-ghost use Rattle.ratio.specs.Value.{fraction_of};
-ghost use Rattle.kernel.specs.MassShare.{IsSmallFactor};
 ghost use Rattle.mesh_in.specs.MeshData.{fractions};
 ghost use Rattle.form_values.specs.MassMatrix.{IsIntervalMesh};
-ghost use Rattle.ffc.specs.Inputs.{loads, IsText, LoadCause, HasForm, FormCause, HasMesh, MeshCause};
+ghost use Rattle.ffc.specs.Inputs.{loads, IsText, LoadCause, HasMesh, MeshCause};
 
-use crate::form_file::read_form;
-use answers::{FormKind, FormRefusal, Outcome};
+use answers::Outcome;
 use ends::files::{Files, LoadError};
 use mesh_in::{MESH_LIMIT, Mesh, read_mesh_of};
-use ratio::Ratio;
 use slices::FORM_LIMIT;
 use spaces::Cell;
 use std::alloc::Global;
@@ -39,27 +35,16 @@ fn load<F: Files>(
     }
 }
 
-/// Loads a form that can be compiled, and gives its factor.
-pub fn load_form<F: Files>(alloc: Global, files: &mut F, name: &str) -> Result<Ratio, Outcome>
-    ensures form { IfOk result (λ c. HasForm (F.content files.old) name.now (fraction_of c)) }
-    ensures small { IfOk result (λ c. IsSmallFactor (fraction_of c)) }
+/// Loads the text of a form file; of one that is too long, a byte more than the limit.
+pub fn load_form<F: Files>(alloc: Global, files: &mut F, name: &str) -> Result<Vec<u8>, Outcome>
+    ensures text { IfOk result (λ bytes. (text : List ℕ) × IsText (F.content files.old) name.now text
+        × (take (FORM_LIMIT + 1) text ≡ bytes.items)) }
     ensures content { F.content files.new ≡ F.content files.old }
     ensures no_fault { OnOk result (F.faults files.new ≡ F.faults files.old) }
-    ensures cause { IfErr result (FormCause (loads (F.content files.old) (F.faults files.old)
-        (F.faults files.new) (F.last_failed files.new)) name.now) }
+    ensures cause { IfErr result (LoadCause (loads (F.content files.old) (F.faults files.old)
+        (F.faults files.new) (F.last_failed files.new)) 1 name.now) }
 {
-    let text = load(alloc, files, name, FORM_LIMIT, 1)?;
-    if text.len() > FORM_LIMIT as usize {
-        let kind = FormKind::TooLong;
-        return Err(Outcome::Form(FormRefusal { kind, line: 0 }));
-    }
-    match read_form(text.as_slice()) {
-        Ok(factor) => Ok(factor),
-        Err(line) => {
-            let kind = FormKind::NotYet;
-            Err(Outcome::Form(FormRefusal { kind, line }))
-        }
-    }
+    load(alloc, files, name, FORM_LIMIT, 1)
 }
 
 /// Loads a mesh of intervals.

@@ -6,8 +6,9 @@
 mod assemble;
 mod command;
 mod compile;
-mod form_file;
+mod forms;
 mod inputs;
+mod mass_form;
 mod matrix;
 mod program;
 #[cfg(test)]

@@ -1,5 +1,5 @@
 //! The matrix of the form `c*u*v*dx`, by the runs of its kernel.
-ghost use Rattle.std.specs.Prelude.{◌≡◌, IfOk, IfErr, OnOk};
+ghost use Rattle.std.specs.Prelude.{◌≡◌, ◌++◌, codes, IfOk, IfErr, OnOk};
 ghost use Rattle.ratio.specs.Value.{fraction_of};
 ghost use Rattle.kernel.specs.MassShare.{IsSmallFactor};
 ghost use Rattle.spaces.specs.Reading.{space_of};
@@ -9,14 +9,13 @@ ghost use Rattle.mesh_in.specs.MeshData.{fractions};
 ghost use Rattle.form_values.specs.Mass.{mass_problem};
 ghost use Rattle.form_values.specs.MassMatrix.{HasMatrix, Refuses, IsIntervalMesh};
 ghost use Rattle.form_values.specs.MassRuns.{line_element};
-ghost use Rattle.c_text.specs.Lawful.{MeetsRules};
 ghost use Rattle.ffc.specs.Assemble.{IsValuesText};
 ghost use Rattle.ffc.specs.MassRows.{ArePlanned, AreLineRows, AreMassRows};
-ghost use Rattle.ffc.specs.Unit.{IsMassUnit};
+ghost use Rattle.ffc.specs.Unit.{IsMassFunction};
 
 use answers::push_matrix;
 use assembly::{Funs, Rows, RunRefusal};
-use c_unit::CUnit;
+use c_unit::CFun;
 use dofs::{DofMap, number};
 use form_values::laws;
 use kernel::plan_mass;
@@ -27,11 +26,17 @@ use spaces::{Cell, Element, Family};
 use sqlite_items::Items;
 use std::alloc::{AllocError, Global};
 
-// The name of the form.
-const FORM_NAME: &str = "a";
+// What stands before the name of a form in the name of its function.
+const BEFORE_NAME: &[u8] = b"ffc_";
 
-// The name of its function.
-const FUNCTION_NAME: &[u8] = b"ffc_a";
+// The name of the function of a form.
+fn function_name(alloc: Global, name: &[u8]) -> Result<Vec<u8>, AllocError>
+    ensures { IfOk result (λ f. f.items ≡ codes "ffc_" ++ name.now) }
+{
+    let mut function = Vec::from_slice(alloc, BEFORE_NAME)?;
+    function.extend_from_slice(name)?;
+    Ok(function)
+}
 
 // The element of its arguments.
 fn line_element() -> Element
@@ -67,13 +72,22 @@ fn line_rows(alloc: Global, mesh: &Mesh) -> Result<DofMap, AllocError>
     number(alloc, mesh, &element)
 }
 
+/// The function of the form `c*u*v*dx` with a name.
+pub fn mass_function(alloc: Global, name: &[u8], c: Ratio) -> Result<CFun, AllocError>
+    requires { IsSmallFactor (fraction_of c) }
+    ensures { IfOk result (IsMassFunction name.now (fraction_of c)) }
+{
+    let function = function_name(alloc, name)?;
+    plan_mass(alloc, function.as_slice(), c)
+}
+
 // The form's function, on all cells.
-fn functions_of(alloc: Global, c: Ratio) -> Result<Funs, AllocError>
+fn functions_of(alloc: Global, name: &[u8], c: Ratio) -> Result<Funs, AllocError>
     requires { IsSmallFactor (fraction_of c) }
     ensures { IfOk result (ArePlanned c) }
 {
     Ok(Funs {
-        plain: plan_mass(alloc, FUNCTION_NAME, c)?,
+        plain: mass_function(alloc, name, c)?,
         marked: Vec::new(alloc),
     })
 }
@@ -81,6 +95,7 @@ fn functions_of(alloc: Global, c: Ratio) -> Result<Funs, AllocError>
 // The rows of the matrix, before the first. All cells were run.
 fn run_cells<'a>(
     alloc: Global,
+    name: &[u8],
     c: Ratio,
     mesh: &Mesh,
     map: &'a DofMap,
@@ -91,7 +106,7 @@ fn run_cells<'a>(
     ensures rows { IfOk result (AreMassRows c mesh.now map.now) }
     ensures refusal { IfErr result (Refuses (fractions mesh.now) c) }
 {
-    let functions = functions_of(alloc, c)?;
+    let functions = functions_of(alloc, name, c)?;
     let layout = line_layout(alloc)?;
     laws::refusals();
     let rows = Rows::new(alloc, &functions, &layout, mesh, Some(map), Some(map), &[])?;
@@ -100,29 +115,18 @@ fn run_cells<'a>(
 
 /// The text of the matrix of the form `c*u*v*dx`, for the continuous functions of degree one on intervals. Each row is
 /// written as it is added up.
-pub fn mass_text(alloc: Global, c: Ratio, mesh: &Mesh) -> Result<Vec<u8>, RunRefusal>
+pub fn mass_text(alloc: Global, name: &[u8], c: Ratio, mesh: &Mesh) -> Result<Vec<u8>, RunRefusal>
     requires factor { IsSmallFactor (fraction_of c) }
     requires mesh { IsIntervalMesh mesh.now }
-    ensures text { IfOk result (λ text. IsValuesText (mass_problem c (fractions mesh.now)) text.items) }
+    ensures text { IfOk result (λ text. IsValuesText name.now (mass_problem c (fractions mesh.now)) text.items) }
     ensures whole { OnOk result (HasMatrix (fractions mesh.now) c) }
     ensures refusal { IfErr result (Refuses (fractions mesh.now) c) }
 {
     let map = line_rows(alloc, mesh)?;
-    let mut rows = run_cells(alloc, c, mesh, &map)?;
+    let mut rows = run_cells(alloc, name, c, mesh, &map)?;
     let mut text = Vec::new(alloc);
     laws::matrix();
     laws::refusals();
-    push_matrix(&mut text, FORM_NAME, map.count(), &mut rows)?;
+    push_matrix(&mut text, name, map.count(), &mut rows)?;
     Ok(text)
-}
-
-/// The unit of the form `c*u*v*dx`: its function alone. It meets the rules of kernels, so its text is read back as it.
-pub fn mass_unit(alloc: Global, c: Ratio) -> Result<CUnit, AllocError>
-    requires { IsSmallFactor (fraction_of c) }
-    ensures unit { IfOk result (IsMassUnit (fraction_of c)) }
-    ensures lawful { IfOk result MeetsRules }
-{
-    let mut funs = Items::new(alloc);
-    funs.push(plan_mass(alloc, FUNCTION_NAME, c)?)?;
-    Ok(CUnit { funs })
 }

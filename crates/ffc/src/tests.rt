@@ -50,12 +50,18 @@ const ZEROS: &str = "form a rank 2 rows 2 columns 2\n";
 
 const HALVES: &str = "form a rank 2 rows 2 columns 2\n0 0 1/3\n0 1 1/6\n1 0 1/6\n1 1 1/3\n";
 
-const NOT_YET_4: &str = "form line 4 refusal 16 NotYet\n";
+const SIZE: &str = "form line 4 refusal 14 Size a\n";
 
-const NOT_YET_5: &str = "form line 5 refusal 16 NotYet\n";
+const NO_FORM: &str = "form line 0 refusal 15 NoForm\n";
+
+const NOT_YET: &str = "form line 4 refusal 16 NotYet a\n";
+
+const SYNTAX_4: &str = "form line 4 refusal 4 Syntax\n";
+
+const SYNTAX_5: &str = "form line 5 refusal 4 Syntax\n";
 
 // What stands behind `a = `, what the program writes of it on the interval from 0 to 2, and its line on err.
-const FACTORS: [(&str, &str, &str); 28] = [
+const FACTORS: [(&str, &str, &str); 31] = [
     (
         "3*u*v*dx\n",
         "form a rank 2 rows 2 columns 2\n0 0 2\n0 1 1\n1 0 1\n1 1 2\n",
@@ -91,31 +97,34 @@ const FACTORS: [(&str, &str, &str); 28] = [
         "form a rank 2 rows 2 columns 2\n0 0 1/1500000000000000000000000000\n0 1 1/3000000000000000000000000000\n1 0 1/3000000000000000000000000000\n1 1 1/1500000000000000000000000000\n",
         "",
     ),
-    ("3301173438094347399730997931*u*v*dx\n", "", NOT_YET_4),
-    ("1e-28*u*v*dx\n", "", NOT_YET_4),
-    (
-        "170141183460469231731687303715884105727*u*v*dx\n",
-        "",
-        NOT_YET_4,
-    ),
+    ("3301173438094347399730997931*u*v*dx\n", "", SIZE),
+    ("1e-28*u*v*dx\n", "", SIZE),
+    ("170141183460469231731687303715884105727*u*v*dx\n", "", SIZE),
     (
         "170141183460469231731687303715884105728*u*v*dx\n",
         "",
-        NOT_YET_4,
+        "form line 4 refusal 10 NumberRange 170141183460469231731687303715884105728\n",
     ),
-    ("3e1234*u*v*dx\n", "", NOT_YET_4),
-    ("-3*u*v*dx\n", "", NOT_YET_4),
-    ("1/2*u*v*dx\n", "", NOT_YET_4),
-    ("3 *u*v*dx\n", "", NOT_YET_4),
-    ("3* u*v*dx\n", "", NOT_YET_4),
-    ("*u*v*dx\n", "", NOT_YET_4),
-    ("2*3*u*v*dx\n", "", NOT_YET_4),
-    ("3*u*v*dx", "", NOT_YET_4),
-    ("3*u*v*dx\r\n", "", NOT_YET_4),
-    ("3\n*u*v*dx\n", "", NOT_YET_4),
-    ("3*u*v*dx\n\n", "", NOT_YET_5),
-    ("3*u*v*dx\nmore", "", NOT_YET_5),
-    ("u*v*dx\na = u*v*dx\n", "", NOT_YET_5),
+    ("3e1234*u*v*dx\n", "", SYNTAX_4),
+    (
+        "-3*u*v*dx\n",
+        "form a rank 2 rows 2 columns 2\n0 0 -2\n0 1 -1\n1 0 -1\n1 1 -2\n",
+        "",
+    ),
+    ("1/2*u*v*dx\n", HALVES, ""),
+    ("1 *  u*v*dx # twice\n\n", MATRIX, ""),
+    ("*u*v*dx\n", "", SYNTAX_4),
+    ("1/6*3*u*v*dx", HALVES, ""),
+    ("1*(u*v)*dx\n", "", NOT_YET),
+    ("1*v*u*dx\n", "", NOT_YET),
+    ("u*v*dx(1)\n", "", NOT_YET),
+    ("-(u*v*dx)\n", "", NOT_YET),
+    ("u.dx(0)*v*dx\n", "", NOT_YET),
+    ("u*u*dx\n", "", "form line 4 refusal 12 Arity a\n"),
+    ("u*w*dx\n", "", "form line 4 refusal 6 UnknownName w\n"),
+    ("3\n*u*v*dx\n", "", SYNTAX_5),
+    ("3*u*v*dx\nmore", "", SYNTAX_5),
+    ("u*v*dx\na = u*v*dx\n", MATRIX, ""),
 ];
 
 // A call of the program: its words, the files `form` and `mesh`, and the first put that fails.
@@ -187,22 +196,34 @@ fn ends_as_the_worked_rows_say(rt: HostRuntime) -> Result<(), Fail> {
             TWO,
             3,
             "",
-            "form line 1 refusal 16 NotYet\n",
+            "form line 1 refusal 4 Syntax\n",
         ),
+        (
+            "check form",
+            MASS,
+            TWO,
+            0,
+            "form a rank 2 cost 4 size 384\n",
+            "",
+        ),
+        ("check none", MASS, TWO, 8, "", "read fault 1\n"),
+        ("check form form", MASS, TWO, 2, "", "usage\n"),
         ("compile", MASS, TWO, 2, "", "usage\n"),
         ("", MASS, TWO, 2, "", "usage\n"),
         ("assemble form a", MASS, TWO, 2, "", "usage\n"),
-        ("assemble form b mesh -", MASS, TWO, 2, "", "usage\n"),
+        ("assemble form b mesh -", MASS, TWO, 3, "", NO_FORM),
         ("assemble none a mesh -", MASS, TWO, 8, "", "read fault 1\n"),
         ("assemble form a none -", MASS, TWO, 8, "", "read fault 2\n"),
-        (words, "", TWO, 3, "", "form line 1 refusal 16 NotYet\n"),
+        (words, "", TWO, 3, "", NO_FORM),
+        ("check form", "", TWO, 3, "", NO_FORM),
+        ("compile form", "", TWO, 3, "", NO_FORM),
         (
             words,
             "V = FiniteElement(\"Lagrange\", interval, 1)\n",
             TWO,
             3,
             "",
-            "form line 2 refusal 16 NotYet\n",
+            NO_FORM,
         ),
         (
             words,
@@ -210,7 +231,7 @@ fn ends_as_the_worked_rows_say(rt: HostRuntime) -> Result<(), Fail> {
             TWO,
             3,
             "",
-            "form line 3 refusal 16 NotYet\n",
+            NO_FORM,
         ),
         (
             words,
@@ -218,7 +239,7 @@ fn ends_as_the_worked_rows_say(rt: HostRuntime) -> Result<(), Fail> {
             TWO,
             3,
             "",
-            "form line 4 refusal 16 NotYet\n",
+            "form line 4 refusal 12 Arity a\n",
         ),
         (
             words,

@@ -1,31 +1,52 @@
+use Rattle.std.proofs.Common.{inl, inr, refl, subst}
 use Rattle.std.proofs.lemmas.Result.{err_from_is_err_and}
 use Rattle.mesh_in.specs.MeshData.{fractions}
-use Rattle.ffc.specs.Inputs.{loads}
-use Rattle.ffc.proofs.AnswerLaws.{same_mesh, run_cause, mesh_cause}
+use Rattle.ffc.specs.Assemble.{IsValuesText}
+use Rattle.ffc.specs.Forms.{problem_of, IsNamed, NamedCause}
+use Rattle.ffc.proofs.MassFormLaws.{is_problem}
+use Rattle.ffc.proofs.MatrixLaws.{problem_text}
 use Rattle.ffc.proofs.assemble.assemble.Goals as goal
+
+pub returns-in_err-factor-clause-cause : goal.returns-in_err-factor-clause-cause
+returns-in_err-factor-clause-cause g c =
+    let p = err_from_is_err_and c.from_residual.result c.from_residual.ensures.1 in
+    rw (p.1, p.2)
+    (inl (subst (λ n. NamedCause c.args.file.now n c.in_err-factor.field-0.0) c.as_bytes-name.ensures.value c.in_err-factor.ensures.cause))
 
 pub returns-in_err-mesh-clause-cause : goal.returns-in_err-mesh-clause-cause
 returns-in_err-mesh-clause-cause g c =
     let p = err_from_is_err_and c.from_residual-in_err-mesh.result c.from_residual-in_err-mesh.ensures.1 in
-    rw (p.1, p.2)
-    (mesh_cause (g.F.Files.content c.args.files.now) _ (g.F.Files.faults c.args.files.now) _ (g.F.Files.faults c.load_mesh.new.files) (g.F.Files.last_failed c.load_mesh.new.files) c.args.form.now c.args.mesh.now
-    c.in_ok-factor.factor c.in_err-mesh.field-0.0 c.in_ok-factor.ensures.content c.in_ok-factor.ensures.no_fault c.in_ok-factor.ensures.form c.in_err-mesh.ensures.cause)
+    let f = c.in_ok-factor.ensures.form in
+    let named = subst (λ n. IsNamed c.args.file.now f.0 n f.2 c.in_ok-factor.factor) c.as_bytes-name.ensures.value f.3 in
+    rw (p.1, p.2) (inr (f.0, f.2, c.in_ok-factor.factor, (f.1, named), inl c.in_err-mesh.ensures.cause))
 
 pub returns-in_err-text-clause-cause : goal.returns-in_err-text-clause-cause
 returns-in_err-text-clause-cause g c =
-    let content = g.F.Files.content c.args.files.now in
-    let l = loads content (g.F.Files.faults c.args.files.now) (g.F.Files.faults c.load_mesh.new.files) (g.F.Files.last_failed c.load_mesh.new.files) in
     let p = err_from_is_err_and c.from_residual-in_err-text.result c.from_residual-in_err-text.ensures.1 in
+    let f = c.in_ok-factor.ensures.form in
+    let named = subst (λ n. IsNamed c.args.file.now f.0 n f.2 c.in_ok-factor.factor) c.as_bytes-name.ensures.value f.3 in
     rw (p.1, p.2)
-    (run_cause l c.args.form.now c.args.mesh.now c.in_ok-factor.factor (fractions c.in_ok-mesh.mesh) c.in_err-text.field-0.0 c.in_ok-factor.ensures.form
-    (same_mesh content _ c.args.mesh.now (fractions c.in_ok-mesh.mesh) c.in_ok-factor.ensures.content c.in_ok-mesh.ensures.mesh) c.in_err-text.ensures.refusal)
+    (inr (
+      f.0,
+      f.2,
+      c.in_ok-factor.factor,
+      (f.1, named),
+      inr (fractions c.in_ok-mesh.mesh, c.in_ok-mesh.ensures.mesh, (c.in_err-text.field-0.0, refl, c.in_err-text.ensures.refusal)),
+    ))
 
-pub returns-clause-ok : goal.returns-clause-ok
-returns-clause-ok g c = (
-  c.in_ok-factor.factor,
-  fractions c.in_ok-mesh.mesh,
-  c.in_ok-factor.ensures.form,
-  same_mesh (g.F.Files.content c.args.files.now) _ c.args.mesh.now (fractions c.in_ok-mesh.mesh) c.in_ok-factor.ensures.content c.in_ok-mesh.ensures.mesh,
-  c.in_ok-text.ensures.whole,
-  c.in_ok-text.ensures.text,
-)
+pub returns-clause-text : goal.returns-clause-text
+returns-clause-text g c =
+    let f = c.in_ok-factor.ensures.form in
+    let m = fractions c.in_ok-mesh.mesh in
+    let named = subst (λ n. IsNamed c.args.file.now f.0 n f.2 c.in_ok-factor.factor) c.as_bytes-name.ensures.value f.3 in
+    let q = problem_of f.0 f.2 m in (
+      f.0,
+      f.2,
+      c.in_ok-factor.factor,
+      m,
+      (f.1, named),
+      c.in_ok-mesh.ensures.mesh,
+      c.in_ok-text.ensures.whole,
+      subst (λ n. IsValuesText n q c.in_ok-text.text.items) c.as_bytes-name.ensures.value
+          (problem_text c.as_bytes-name.result.now q c.in_ok-factor.factor c.in_ok-text.text.items (is_problem f.0 f.2 m c.in_ok-factor.factor named.is_mass named.typed) c.in_ok-text.ensures.text),
+    )

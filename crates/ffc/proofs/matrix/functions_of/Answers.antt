@@ -1,4 +1,4 @@
 use Rattle.ffc.proofs.matrix.functions_of.Goals as goal
 
 pub returns : goal.returns
-returns c = record { plain = c.new.ensures.items; size = c.in_ok-plan_mass.ensures.a; planned = c.in_ok-plan_mass.ensures.share }
+returns c = let f = c.in_ok-mass_function.ensures in record { plain = c.new.ensures.items; size = f.a; planned = f.share }

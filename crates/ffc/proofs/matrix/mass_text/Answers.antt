@@ -20,7 +20,7 @@ returns-clause-text c =
     let g = c.in_ok-push_matrix.ensures.text in (
       g.0,
       c.matrix.ensures.values c.args.c c.args.mesh.now r.funs c.in_ok-map.map r.is r.good g.0 (pushed_sums c.args.c c.args.mesh.now c.in_ok-map.map c.in_ok-rows.rows g.0 r g.1),
-      pushed_text c.args.c c.args.mesh.now c.in_ok-map.map c.in_ok-rows.rows c.count.result c.new-text.result.items c.push_matrix.new.text.items g.0 r c.count.ensures.count c.new-text.ensures.items g.2,
+      pushed_text c.args.c c.args.mesh.now c.in_ok-map.map c.in_ok-rows.rows c.args.name.now c.count.result c.new-text.result.items c.push_matrix.new.text.items g.0 r c.count.ensures.count c.new-text.ensures.items g.2,
     )
 
 pub returns-clause-whole : goal.returns-clause-whole
