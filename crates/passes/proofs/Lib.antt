@@ -1,0 +1,11 @@
+pub mod ResultLaws
+pub mod NodeLaws
+pub mod IndexLaws
+pub mod NameLaws
+pub mod SpotLaws
+pub mod ShareLaws
+pub mod PieceLaws
+pub mod PairLaws
+pub mod LoweringLaws
+pub mod AboveLaws
+pub mod KeptLaws
