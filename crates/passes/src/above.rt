@@ -7,7 +7,8 @@ ghost use Rattle.lower.specs.Keeping.{above, all_above, names_above, all_names_a
 
 use ufl_tree::{Ix, Node, Tree};
 
-fn above(i: Ix) -> u32
+/// The least number that is above the name of an index.
+pub fn above(i: Ix) -> u32
     ensures { result ≡ above i }
 {
     match i {

@@ -4,11 +4,11 @@
 //! expression means there and which the weight of the expression bounds.
 #![tactic(auto)]
 
-mod above;
+pub mod above;
 mod indices;
 mod lowering;
-mod names;
-mod nodes;
+pub mod names;
+pub mod nodes;
 mod pairs;
 mod pieces;
 mod shares;
