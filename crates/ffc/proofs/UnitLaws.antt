@@ -1,53 +1,92 @@
--- The functions of forms have names of C and make few statements, so the text of their unit is read back
-use Rattle.std.proofs.Common.{◌≡◌, ℕ, List, [], ◌∷◌, ◌++◌, true, codes, sym, ◌∙◌, subst, lit≤}
+-- The functions of forms have names of C that differ and make few statements, so the text of their unit is read back
+use Rattle.std.proofs.Common.{◌≡◌, ◌≢◌, ℕ, zero, suc, List, [], ◌∷◌, ◌++◌, Bool, true, ◌||◌, ◌&&◌, codes, Ok, refl, sym, ◌∙◌, subst, lit≤, arith}
 use Rattle.std.proofs.Math.Nat.{le_trans}
+use Rattle.std.specs.List.{AllByRecursion}
 use Rattle.std.proofs.lemmas.List.{append_cancel_left}
+use Rattle.std.proofs.lemmas.List.Elements.{recursion_from_All}
+use Rattle.slices.specs.CTable.{is_letter, is_digit, is_inside_word}
 use Rattle.c_unit.specs.declared.unit.CFun.{CFun}
 use Rattle.c_unit.specs.declared.unit.CUnit.{CUnit}
 use Rattle.c_unit.specs.Rules.{NewName, EachKeeps}
 use Rattle.c_text.specs.Lawful.{is_name, all_inside, KeepsRules, MeetsRules}
 use Rattle.ufl_elab.specs.declared.program.Named.{Named}
 use Rattle.ufl_elab.specs.declared.program.UflProgram.{UflProgram}
-use Rattle.form_files.specs.Checks.{name_of}
-use Rattle.ffc.specs.Unit.{IsFunctionOf, AreFunctionsOf, IsNew, AreNamesFrom, AreNames}
+use Rattle.ufl_program.specs.Names.{name_of, DifferInName}
+use Rattle.form_files.specs.Admissions.{IsFileOf}
+use Rattle.form_files.specs.Names.{IsIdentifier}
+use Rattle.form_files.proofs.NameLaws.{admitted_names}
+use Rattle.ffc.specs.Unit.{IsFunctionOf, AreFunctionsOf}
 
--- the functions have these names behind `ffc_`
-abbrev AreNamed : List CFun → List (List ℕ) → Type 0
-AreNamed [] [] = Unit {0}
-AreNamed (f ∷ fs) (n ∷ ns) = (f.name ≡ codes "ffc_" ++ n) × AreNamed fs ns
-AreNamed [] (n ∷ ns) = ⊥
-AreNamed (f ∷ fs) [] = ⊥
+-- ---- identifiers are names of C
+both_inside : (a b : Bool) → a ≡ true → b ≡ true → (a && b) ≡ true
+both_inside a b e f = rw (e, f) refl
 
-named_behind : (fs : List CFun) (ns : List (List ℕ)) (f : CFun) (n : List ℕ) → AreNamed fs ns → f.name ≡ codes "ffc_" ++ n → AreNamed (fs ++ f ∷ []) (ns ++ n ∷ [])
-named_behind [] [] f n are is = (is, tt)
-named_behind (g ∷ fs) (m ∷ ns) f n are is = (are.0, named_behind fs ns f n are.1 is)
-named_behind [] (m ∷ ns) f n are is = absurd are
-named_behind (g ∷ fs) [] f n are is = absurd are
+pass_inside : (bs : List ℕ) → AllByRecursion (λ b. is_inside_word b ≡ true) bs → all_inside bs ≡ true
+pass_inside [] h = refl
+pass_inside (b ∷ bs) h = both_inside (is_inside_word b) (all_inside bs) h.0 (pass_inside bs h.1)
 
-new_name : (fs : List CFun) (ns : List (List ℕ)) (f : CFun) (n : List ℕ) → AreNamed fs ns → f.name ≡ codes "ffc_" ++ n → IsNew n ns → NewName fs f.name
-new_name [] [] f n are is new = tt
-new_name (g ∷ fs) (m ∷ ns) f n are is new = ((λ e. new.0 (append_cancel_left (codes "ffc_") m n (sym are.0 ∙ e ∙ is))), new_name fs ns f n are.1 is new.1)
-new_name [] (m ∷ ns) f n are is new = absurd are
-new_name (g ∷ fs) [] f n are is new = absurd are
+letter_inside : (letter digit : Bool) → letter ≡ true → (letter || digit) ≡ true
+letter_inside letter digit e = rw e refl
 
-keeps : (file : List ℕ) (p : UflProgram) (n : Named) (f : CFun) → IsFunctionOf file p n f → all_inside (name_of file n) ≡ true → KeepsRules f
-keeps file p n f (c, is, m) inside = record {
-  name = subst (λ name. is_name name ≡ true) (sym m.name_is) inside;
+identifier_inside : (name : List ℕ) → IsIdentifier name → all_inside name ≡ true
+identifier_inside [] h = absurd h
+identifier_inside (b ∷ bs) h =
+    both_inside (is_inside_word b) (all_inside bs) (letter_inside (is_letter b) (is_digit b) h.0) (pass_inside bs (recursion_from_All _ bs h.1))
+
+-- ---- one form after the other
+abbrev c_name : List ℕ → Named → List ℕ
+c_name file n = codes "ffc_" ++ name_of file n
+
+-- none has the name of a later one
+abbrev AreApart : List ℕ → List Named → Type 0
+AreApart file [] = Unit {0}
+AreApart file (n ∷ ns) = AllByRecursion (λ m. name_of file n ≢ name_of file m) ns × AreApart file ns
+
+apart : (file : List ℕ) (ns : List Named) → DifferInName file ns → AreApart file ns
+apart file [] h = tt
+apart file (n ∷ ns) h = (
+  recursion_from_All (λ m. name_of file n ≢ name_of file m) ns (λ k d l. h zero (suc k) d (omega arith) (omega (arith, l))),
+  apart file ns (λ i j d l k. h (suc i) (suc j) d (omega (arith, l)) (omega (arith, k))),
+)
+
+new_behind : (before : List CFun) (f : CFun) (name : List ℕ) → NewName before name → f.name ≢ name → NewName (before ++ f ∷ []) name
+new_behind [] f name new other = (other, tt)
+new_behind (g ∷ before) f name new other = (new.0, new_behind before f name new.1 other)
+
+still_new : (file : List ℕ) (before : List CFun) (f : CFun) (n : Named) (ns : List Named) → f.name ≡ c_name file n
+    → AllByRecursion (λ m. NewName before (c_name file m)) ns → AllByRecursion (λ m. name_of file n ≢ name_of file m) ns
+    → AllByRecursion (λ m. NewName (before ++ f ∷ []) (c_name file m)) ns
+still_new file before f n [] is new other = tt
+still_new file before f n (m ∷ ns) is new other = (
+  new_behind before f (c_name file m) new.0 (λ e. other.0 (append_cancel_left (codes "ffc_") (name_of file n) (name_of file m) (sym is ∙ e))),
+  still_new file before f n ns is new.1 other.1,
+)
+
+keeps : (file : List ℕ) (p : UflProgram) (n : Named) (f : CFun) → IsFunctionOf file p n f → IsIdentifier (name_of file n) → KeepsRules f
+keeps file p n f (c, is, m) named = record {
+  name = subst (λ name. is_name name ≡ true) (sym m.name_is) (identifier_inside (name_of file n) named);
   sizes = m.sizes;
   count = le_trans m.bound (lit≤ tt);
 }
 
-all_keep : (file : List ℕ) (p : UflProgram) (before : List CFun) (earlier : List (List ℕ)) (ns : List Named) (fs : List CFun) → AreNamed before earlier
-    → AreFunctionsOf file p ns fs → AreNamesFrom file earlier ns → EachKeeps KeepsRules before fs
-all_keep file p before earlier [] [] named are names = tt
-all_keep file p before earlier (n ∷ ns) (f ∷ fs) named are names =
-    let m = are.0.2.name_is in (
-      keeps file p n f are.0 names.0,
-      new_name before earlier f (name_of file n) named m names.1,
-      all_keep file p (before ++ f ∷ []) (earlier ++ name_of file n ∷ []) ns fs (named_behind before earlier f (name_of file n) named m) are.1 names.2,
-    )
-all_keep file p before earlier [] (f ∷ fs) named are names = absurd are
-all_keep file p before earlier (n ∷ ns) [] named are names = absurd are
+module _ (file : List ℕ) (p : UflProgram) where
+  all_keep : (before : List CFun) (ns : List Named) (fs : List CFun) → AreFunctionsOf file p ns fs → AllByRecursion (λ n. IsIdentifier (name_of file n)) ns
+      → AreApart file ns → AllByRecursion (λ n. NewName before (c_name file n)) ns → EachKeeps KeepsRules before fs
+  all_keep before [] [] are named other new = tt
+  all_keep before (n ∷ ns) (f ∷ fs) are named other new =
+      let is = are.0.2.name_is in (
+        keeps file p n f are.0 named.0,
+        subst (NewName before) (sym is) new.0,
+        all_keep (before ++ f ∷ []) ns fs are.1 named.1 other.1 (still_new file before f n ns is new.1 other.0),
+      )
+  all_keep before [] (f ∷ fs) are named other new = absurd are
+  all_keep before (n ∷ ns) [] are named other new = absurd are
 
-pub unit_keeps : (file : List ℕ) (p : UflProgram) (u : CUnit) → AreFunctionsOf file p p.forms u.funs → AreNames file p.forms → MeetsRules u
-unit_keeps file p u are names = all_keep file p [] [] p.forms u.funs tt are names
+  all_new : (ns : List Named) → AllByRecursion (λ n. NewName [] (c_name file n)) ns
+  all_new [] = tt
+  all_new (n ∷ ns) = (tt, all_new ns)
+
+  pub unit_keeps : (u : CUnit) → AreFunctionsOf file p p.forms u.funs → IsFileOf file (Ok p) → MeetsRules u
+  unit_keeps u are says =
+      let h = admitted_names file p says in
+      all_keep [] p.forms u.funs are (recursion_from_All _ p.forms h.identifiers) (apart file p.forms h.distinct) (all_new p.forms)

@@ -5,15 +5,15 @@ use Rattle.c_text.specs.Layout.{canonical}
 use Rattle.c_text.specs.Lawful.{MeetsRules}
 use Rattle.ufl_elab.specs.declared.program.UflProgram.{UflProgram}
 use Rattle.form_files.specs.Admissions.{IsFileOf}
-use Rattle.ffc.specs.Unit.{AreFunctionsOf, AreNames}
+use Rattle.ffc.specs.Unit.{AreFunctionsOf}
 
--- The file exports a form, and the text is the canonical one of the unit with a function for each. The names of the forms
--- are names of C; so the unit is lawful, and the text is read back as it.
+-- The file exports a form, and the text is the canonical one of the unit with a function for each. The unit is lawful, so
+-- the text is read back as it.
 pub record IsUnitText (file text : List ℕ) : Type 0 where
   pub program : UflProgram
   pub unit : CUnit
   pub says : IsFileOf file (Ok program)
   pub some : program.forms ≢ []
   pub functions : AreFunctionsOf file program program.forms unit.funs
-  pub lawful : AreNames file program.forms → MeetsRules unit
+  pub lawful : MeetsRules unit
   pub text_is : text ≡ canonical unit

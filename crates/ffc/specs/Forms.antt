@@ -18,7 +18,7 @@ use Rattle.ufl_read.specs.Refusals.{wordless}
 use Rattle.ufl_elab.specs.declared.program.Named.{Named}
 use Rattle.ufl_elab.specs.declared.program.UflProgram.{UflProgram}
 use Rattle.form_files.specs.Admissions.{IsFileOf}
-use Rattle.form_files.specs.Checks.{name_of}
+use Rattle.ufl_program.specs.Names.{name_of}
 use Rattle.form_values.specs.Problem.{Problem}
 use Rattle.answers.specs.declared.outcome.Outcome.{Outcome}
 use Rattle.answers.specs.declared.outcome.Outcome.TheVariants.{Form, NotYet, Memory}

@@ -1,16 +1,15 @@
 -- The unit that is printed for the forms of a file
-use Rattle.std.specs.Prelude.{◌≡◌, ◌≢◌, ◌≤◌, ◌⊎◌, ℕ, List, [], ◌∷◌, ◌++◌, true, codes}
+use Rattle.std.specs.Prelude.{◌≡◌, ◌≤◌, ◌⊎◌, ℕ, List, [], ◌∷◌, ◌++◌, codes}
 use Rattle.algebra.specs.Fraction.{Fraction}
 use Rattle.ratio.specs.declared.reduced.Ratio.{Ratio}
 use Rattle.ratio.specs.Value.{fraction_of}
-use Rattle.c_text.specs.Lawful.{all_inside}
 use Rattle.c_unit.specs.declared.unit.CFun.{CFun}
 use Rattle.c_unit.specs.Meaning.{ran, counted_list}
 use Rattle.c_unit.specs.Rules.{KeepsSizes}
 use Rattle.kernel.specs.MassShare.{outcome, mass_outcome}
 use Rattle.ufl_elab.specs.declared.program.Named.{Named}
 use Rattle.ufl_elab.specs.declared.program.UflProgram.{UflProgram}
-use Rattle.form_files.specs.Checks.{name_of}
+use Rattle.ufl_program.specs.Names.{name_of}
 use Rattle.answers.specs.declared.outcome.Outcome.{Outcome}
 use Rattle.answers.specs.declared.outcome.Outcome.TheVariants.{Memory}
 use Rattle.ffc.specs.Forms.{IsMassForm, CannotCompile, not_yet}
@@ -40,18 +39,3 @@ AreFunctionsOf file p [] [] = Unit {0}
 AreFunctionsOf file p (n ∷ ns) (f ∷ fs) = IsFunctionOf file p n f × AreFunctionsOf file p ns fs
 AreFunctionsOf file p [] (f ∷ fs) = ⊥
 AreFunctionsOf file p (n ∷ ns) [] = ⊥
-
--- ---- names
-abbrev pub IsNew : List ℕ → List (List ℕ) → Type 0
-IsNew name [] = Unit {0}
-IsNew name (x ∷ xs) = (x ≢ name) × IsNew name xs
-
--- the names of the forms consist of letters and digits, and none is among those before it
-abbrev pub AreNamesFrom : List ℕ → List (List ℕ) → List Named → Type 0
-AreNamesFrom file earlier [] = Unit {0}
-AreNamesFrom file earlier (n ∷ ns) =
-    (all_inside (name_of file n) ≡ true) × IsNew (name_of file n) earlier
-    × AreNamesFrom file (earlier ++ name_of file n ∷ []) ns
-
-abbrev pub AreNames : List ℕ → List Named → Type 0
-AreNames file ns = AreNamesFrom file [] ns

@@ -6,7 +6,7 @@ ghost use Rattle.kernel.specs.MassShare.{IsSmallFactor};
 ghost use Rattle.ufl_form.specs.Reading.{form_of};
 ghost use Rattle.ufl_form.specs.Table.{form_kind};
 ghost use Rattle.form_files.specs.Admissions.{IsFileOf};
-ghost use Rattle.form_files.specs.Checks.{name_of};
+ghost use Rattle.ufl_program.specs.Names.{name_of};
 ghost use Rattle.ffc.specs.Forms.{form_named, no_form, not_yet, IsMassForm, CannotCompile, IsNamed, ProgramCause, NamedCause, NamedRefused, CompileCause};
 ghost use Rattle.ufl_elab.specs.declared.program.Named.{Named};
 ghost use Rattle.ufl_elab.specs.declared.program.UflProgram.{UflProgram};

@@ -5,7 +5,8 @@ use Rattle.ufl_read.specs.declared.refusal.FormRefusal.{FormRefusal}
 use Rattle.ufl_elab.specs.declared.program.Named.{Named}
 use Rattle.form_files.specs.declared.admissions.Admitted.{Admitted}
 use Rattle.form_files.specs.Admissions.{admission_of}
-use Rattle.form_files.specs.Checks.{name_of, form_line, behind, line_with, form_lines}
+use Rattle.ufl_program.specs.Names.{name_of}
+use Rattle.form_files.specs.Checks.{form_line, behind, line_with, form_lines}
 
 behind_twice : (a b : List ℕ) (r : Result (List ℕ) FormRefusal) → behind (a ++ b) r ≡ behind a (behind b r)
 behind_twice a b (Ok lines) = ap Ok (append_assoc a b lines)

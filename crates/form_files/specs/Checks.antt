@@ -1,12 +1,12 @@
 -- What `check` prints of a form file
 use Rattle.std.specs.Prelude.{◌≡◌, ℕ, ◌++◌, List, [], ◌∷◌, codes, decimal, Result, Ok, Err}
 use Rattle.ufl_tree.specs.Places.{Table, table_of}
-use Rattle.ufl_syntax.specs.Spans.{word_at}
 use Rattle.ufl_read.specs.declared.refusal.FormKind.TheVariants as k
 use Rattle.ufl_read.specs.declared.refusal.FormRefusal.{FormRefusal}
 use Rattle.ufl_read.specs.Refusals.{wordless}
 use Rattle.ufl_elab.specs.declared.program.Named.{Named}
 use Rattle.ufl_elab.specs.declared.program.UflProgram.{UflProgram}
+use Rattle.ufl_program.specs.Names.{name_of}
 use Rattle.form_files.specs.declared.admissions.Admitted.{Admitted}
 use Rattle.form_files.specs.Admissions.{admission_of}
 use Rattle.form_files.specs.FileProgram.{Says}
@@ -18,9 +18,6 @@ joined (piece ∷ pieces) = piece ++ joined pieces
 abbrev pub form_line : List ℕ → Admitted → List ℕ
 form_line name a = joined (codes "form " ∷ name ∷ codes " rank " ∷ decimal a.rank ∷ codes " cost " ∷ decimal a.cost
     ∷ codes " size " ∷ decimal a.size ∷ codes "\n" ∷ [])
-
-abbrev pub name_of : List ℕ → Named → List ℕ
-name_of file n = word_at file (record { from = n.from; len = n.len })
 
 abbrev pub behind : List ℕ → Result (List ℕ) FormRefusal → Result (List ℕ) FormRefusal
 behind line (Err e) = Err e

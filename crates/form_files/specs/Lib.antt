@@ -1,3 +1,4 @@
 pub mod FileProgram
 pub mod Admissions
+pub mod Names
 pub mod Checks

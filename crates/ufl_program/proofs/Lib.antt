@@ -7,4 +7,6 @@ pub mod CallLaws
 pub mod MadeLaws
 pub mod NameLaws
 pub mod EvaluationLaws
+pub mod StatementLaws
 pub mod ProgramLaws
+pub mod ExportLaws

@@ -1,6 +1,7 @@
 -- The exported forms of a program are sound
-use Rattle.std.proofs.Common.{ℕ, ◌==◌, List, [], ◌∷◌, ◌++◌, length, nat_lt, Bool, true, false, if◌then◌else◌, Option, None, Some, Result, Ok, Err}
+use Rattle.std.proofs.Common.{ℕ, ◌==◌, List, [], ◌∷◌, ◌++◌, length, Bool, true, false, if◌then◌else◌, Option, None, Some, Ok, Err, subst}
 use Rattle.std.specs.Prelude.{IfOk, IfSome, codes}
+use Rattle.std.specs.List.{AllByRecursion}
 use Rattle.std.specs.Str.{bytes_eq}
 use Rattle.ufl_syntax.specs.declared.span.Span.{Span}
 use Rattle.ufl_syntax.specs.Spans.{word_at}
@@ -8,15 +9,13 @@ use Rattle.ufl_syntax.specs.declared.tree.AssignOp.{AssignOp}
 use Rattle.ufl_syntax.specs.declared.tree.AssignOp.TheVariants as o
 use Rattle.ufl_syntax.specs.declared.tree.Stmt.{Stmt}
 use Rattle.ufl_syntax.specs.declared.tree.Syn.{Syn}
-use Rattle.ufl_read.specs.declared.refusal.FormRefusal.{FormRefusal}
 use Rattle.ufl_tree.specs.Places.{table_of}
 use Rattle.ufl_values.specs.declared.refusal.Reason.{Reason}
 use Rattle.ufl_values.specs.declared.refusal.Reason.TheVariants as r
-use Rattle.ufl_values.specs.declared.value.Value.{Value, Tuple', List'}
+use Rattle.ufl_values.specs.declared.value.Value.{Value}
 use Rattle.ufl_values.specs.declared.value.Value.TheVariants as v
 use Rattle.ufl_values.specs.declared.words.Sign.{Sign}
 use Rattle.ufl_values.specs.declared.words.Sign.TheVariants as s
-use Rattle.ufl_values.specs.Refused.{placed}
 use Rattle.ufl_values.specs.Values.{tuple_of, list_of}
 use Rattle.ufl_values.specs.Operators.{binary_of}
 use Rattle.ufl_calls.specs.declared.made.Made.{Made}
@@ -24,13 +23,14 @@ use Rattle.ufl_calls.specs.Made.{unmade}
 use Rattle.ufl_calls.specs.Calls.{Refusable, at_word}
 use Rattle.ufl_elab.specs.declared.bound.Bound.{Bound}
 use Rattle.ufl_elab.specs.declared.program.Named.{Named}
-use Rattle.ufl_elab.specs.Names.{Name, bound_by, assign, get, value_in, nodes_in, limited}
+use Rattle.ufl_elab.specs.Names.{Name, bound_by, assign, get, value_in}
 use Rattle.ufl_elab.specs.Evaluation.{Place, step, eval_of}
-use Rattle.ufl_elab.specs.Statements.{State, After, start, value_of, updated, assigned, items_by, items_of, counted, counted_items, bind_each, bound, named, with_names, bound_after, place, assignment, statement, further, statements}
-use Rattle.ufl_elab.specs.Exports.{Exports, Chosen, form_bound, named_by, form_named, is_among, choice, with_form, with_name, name_in, chosen, optional, usual, last_exports, exported_by, exported}
-use Rattle.ufl_elab.specs.Programs.{program_of, ended, program}
+use Rattle.ufl_elab.specs.Statements.{State, After, start, value_of, updated, assigned, items_by, items_of, counted, counted_items, bind_each, bound, named, bound_after, place, assignment, statement, statements}
+use Rattle.ufl_elab.specs.Exports.{Exports, form_named, is_among, choice, name_in, chosen, optional, usual, last_exports, exported_by, exported}
+use Rattle.ufl_elab.specs.Programs.{ended, program}
 use Rattle.ufl_program.specs.Sound.{AreSound, IsSound}
-use Rattle.ufl_program.proofs.StepLaws.{then_keeps}
+use Rattle.ufl_program.proofs.StepLaws.{Any, then_keeps}
+use Rattle.ufl_program.proofs.StatementLaws.{named_keep, with_names_keep, statements_keep, named_by_keeps, with_form_keeps, with_name_keeps, program_of_keeps}
 use Rattle.ufl_program.proofs.Parts.{in_form, tuple_items, list_items}
 use Rattle.ufl_program.proofs.OperatorLaws.{binary_keeps}
 use Rattle.ufl_program.proofs.MadeLaws.{Sound, AllSound, Makes, sound_still, unmade_keeps}
@@ -108,33 +108,18 @@ module _ (m : Made) where
       (counted_keep (length targets) a h)
       (λ items k. each_keeps file line targets items xs k N)
 
-  limited_by : (t : Bool) (xs : List Name) → Names xs → IfOk {E = Reason} (if t then Err r.Nodes else Ok xs) Names
-  limited_by true xs N = tt
-  limited_by false xs N = N
-
-  placed_keep : (r : Result (List Name) Reason) (line : ℕ) (word : Span) → IfOk r Names → IfOk (placed r line word) Names
-  placed_keep (Ok xs) line word h = h
-  placed_keep (Err e) line word h = tt
-
-  named_keep : (file : List ℕ) (st : Stmt) (first : Span) (a : Value) (xs : List Name) → Sound m a → Names xs → IfOk (named file st first a xs) Names
-  named_keep file st first a xs h N =
-      placed_keep _ st.line first
-      (then_keeps (bound file st.unpack st.line first st.targets a xs) limited Names Names
-      (bound_keeps file st.unpack st.line first st.targets a xs h N) (λ ys M. limited_by (nat_lt 1000000 (nodes_in ys)) ys M))
+  sound_named : (file : List ℕ) (st : Stmt) (first : Span) (a : Value) (xs : List Name) → Sound m a → Names xs → IfOk (named file st first a xs) Names
+  sound_named file st first a xs h N = named_keep Names file st first a xs (bound_keeps file st.unpack st.line first st.targets a xs h N)
 
 -- ---- statements
 abbrev SoundState : State → Type 0
 SoundState state = SoundNames state.made state.names
 
-with_names_keep : (r : Result (List Name) FormRefusal) (m : Made) → IfOk r (SoundNames m) → IfOk (with_names r m) SoundState
-with_names_keep (Ok xs) m h = h
-with_names_keep (Err e) m h = tt
-
 after_keeps : (file : List ℕ) (st : Stmt) (first : Span) (r : Refusable Value) (xs : List Name) (m : Made) → SoundNames m xs → IfOk r (Makes Sound m)
     → IfOk (bound_after file st first r xs) SoundState
 after_keeps file st first (Err e) xs m N h = tt
 after_keeps file st first (Ok p) xs m N h =
-    with_names_keep (named file st first p.0 xs) p.1 (named_keep p.1 file st first p.0 xs h.1 (names_still m p.1 h.0 xs N))
+    with_names_keep SoundState (named file st first p.0 xs) p.1 (sound_named p.1 file st first p.0 xs h.1 (names_still m p.1 h.0 xs N))
 
 assignment_keeps : (file : List ℕ) (st : Stmt) (targets : List Span) (written : Option Syn) (state : State) → SoundState state
     → IfOk (assignment file st targets written state) SoundState
@@ -148,15 +133,9 @@ statement_keeps : (file : List ℕ) (st : Stmt) (state : State) → SoundState s
 unfolding statement
 statement_keeps file st state N = assignment_keeps file st st.targets st.value state N
 
-further_keeps : (r : After) (next : State → After) → IfOk r SoundState → ((state : State) → SoundState state → IfOk (next state) SoundState)
-    → IfOk (further r next) SoundState
-further_keeps (Ok state) next h f = f state h
-further_keeps (Err e) next h f = tt
-
-statements_keep : (file : List ℕ) (sts : List Stmt) (state : State) → SoundState state → IfOk (statements file sts state) SoundState
-statements_keep file [] state N = N
-statements_keep file (st ∷ sts) state N =
-    further_keeps (statement file st state) (λ next. statements file sts next) (statement_keeps file st state N) (λ next M. statements_keep file sts next M)
+each_statement : (sts : List Stmt) → AllByRecursion Any sts
+each_statement [] = tt
+each_statement (st ∷ sts) = (tt, each_statement sts)
 
 -- ---- exported forms
 module _ (m : Made) where
@@ -166,25 +145,9 @@ module _ (m : Made) where
   abbrev Forms : List Named → Type 0
   Forms = AreSound (table_of m.elements) m.coefficients
 
-  form_bound_keeps : (b : Bound) (a : Value) → Sound m a → IfSome (form_bound b a) Form
-  form_bound_keeps b (v.Form u) h = h
-  form_bound_keeps b (v.Expr t) h = tt
-  form_bound_keeps b (v.Number c) h = tt
-  form_bound_keeps b (v.Element u) h = tt
-  form_bound_keeps b (v.Function x) h = tt
-  form_bound_keeps b (v.Cell c) h = tt
-  form_bound_keeps b (v.Index k) h = tt
-  form_bound_keeps b (v.Measure o) h = tt
-  form_bound_keeps b (v.Text c d) h = tt
-  form_bound_keeps b (Tuple' c d) h = tt
-  form_bound_keeps b (List' c d) h = tt
-
-  named_by_keeps : (o : Option Bound) → IfSome o (λ b. Sound m b.value) → IfSome (named_by o) Form
-  named_by_keeps None h = tt
-  named_by_keeps (Some b) h = form_bound_keeps b b.value h
-
   form_named_keeps : (xs : List Name) (name : List ℕ) → SoundNames m xs → IfSome (form_named xs name) Form
-  form_named_keeps xs name N = named_by_keeps (get xs name) (get_keeps m xs name N)
+  form_named_keeps xs name N =
+      named_by_keeps (λ b. Sound m b.value) Form (get xs name) (get_keeps m xs name N) (λ b t h e. subst (Sound m) e h)
 
   optional_keeps : (o : Option Named) → IfSome o Form → Forms (optional o)
   optional_keeps None h = tt
@@ -206,21 +169,12 @@ module _ (m : Made) where
   choice_by true o h = tt
   choice_by false o h = h
 
-  with_form_keeps : (x : Exports) (o : Option Named) (next : Named → Chosen) → IfSome o Form → ((u : Named) → Form u → IfOk (next u) Forms)
-      → IfOk (with_form x o next) Forms
-  with_form_keeps x None next h f = tt
-  with_form_keeps x (Some u) next h f = f u h
-
-  with_name_keeps : (x : Exports) (o : Option (List ℕ)) (next : List ℕ → Chosen) → ((name : List ℕ) → IfOk (next name) Forms) → IfOk (with_name x o next) Forms
-  with_name_keeps x None next f = tt
-  with_name_keeps x (Some name) next f = f name
-
   chosen_keep : (file : List ℕ) (xs : List Name) (x : Exports) (before : List (List ℕ)) (found : List Named) (es : List Syn) → SoundNames m xs → Forms found
       → IfOk (chosen file xs x before found es) Forms
   chosen_keep file xs x before found [] N h = h
   chosen_keep file xs x before found (e ∷ es) N h =
-      with_name_keeps x (name_in file e) _ (λ name.
-      with_form_keeps x (choice xs before name) (λ form. chosen file xs x (name ∷ before) (found ++ form ∷ []) es)
+      with_name_keeps Forms x (name_in file e) _ (λ name.
+      with_form_keeps Forms Form x (choice xs before name) (λ form. chosen file xs x (name ∷ before) (found ++ form ∷ []) es)
       (choice_by (is_among name before) (form_named xs name) (form_named_keeps xs name N))
       (λ u U. chosen_keep file xs x (name ∷ before) (found ++ u ∷ []) es N (joined found (u ∷ []) h (in_form (table_of m.elements) m.coefficients u.form U, tt))))
 
@@ -233,14 +187,10 @@ module _ (m : Made) where
   exported_keep file sts xs N = exported_by_keeps file (last_exports file None sts) xs N
 
 -- ---- programs
-program_of_keeps : (m : Made) (r : Result (List Named) FormRefusal) → IfOk r (AreSound (table_of m.elements) m.coefficients) → IfOk (program_of m r) IsSound
-program_of_keeps m (Ok forms) h = h
-program_of_keeps m (Err e) h = tt
-
 ended_keeps : (file : List ℕ) (sts : List Stmt) (r : After) → IfOk r SoundState → IfOk (ended file sts r) IsSound
-ended_keeps file sts (Ok state) N = program_of_keeps state.made (exported file sts state.names) (exported_keep state.made file sts state.names N)
+ended_keeps file sts (Ok state) N = program_of_keeps IsSound state.made (exported file sts state.names) (exported_keep state.made file sts state.names N)
 ended_keeps file sts (Err e) N = tt
 
 pub program_sound : (file : List ℕ) (sts : List Stmt) → IfOk (program file sts) IsSound
 unfolding program
-program_sound file sts = ended_keeps file sts (statements file sts start) (statements_keep file sts start tt)
+program_sound file sts = ended_keeps file sts (statements file sts start) (statements_keep SoundState Any file (λ st state q h. statement_keeps file st state h) sts start (each_statement sts) tt)

@@ -27,6 +27,6 @@ returns-clause-text c =
       says = c.in_ok-program.ensures.says;
       some = c.in_ok-program.ensures.some;
       functions = are;
-      lawful = unit_keeps c.args.file.now c.in_ok-program.program u are;
+      lawful = unit_keeps c.args.file.now c.in_ok-program.program u are c.in_ok-program.ensures.says;
       text_is = c.in_ok-print_unit.ensures.text ∙ ap (λ (l : List _). l ++ canonical u) c.new-text.ensures.items;
     }
