@@ -1,0 +1,9 @@
+pub mod NodeLaws
+pub mod SubstitutionLaws
+pub mod SidesLaws
+pub mod OperatorLaws
+pub mod DensityLaws
+pub mod WeightLaws
+pub mod FlatteningLaws
+pub mod PlusLaws
+pub mod TotalLaws

@@ -1,0 +1,5 @@
+pub mod Integrands
+pub mod Substitution
+pub mod Sides
+pub mod Flattening
+pub mod Keeping
