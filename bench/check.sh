@@ -2,7 +2,7 @@
 # Times the reading and elaborating of form files of 262,144 bytes beside Python's ast.parse of the same texts, which
 # only reads them, and prints microseconds and their ratio: below 1 the elaboration is faster. A text that is refused
 # says so: its time is that up to the refusal. Run it at the top of the repository: sh bench/check.sh [RUNS]
-# The two texts of a large name copy its value again and again, and take a minute or two.
+# The text of sums of a large name copies its value again and again, and takes a minute or so.
 # Before each run it prints the load of the machine; above the number of its processors times say little.
 # It works on a copy, since a program that only prints times is no part of the gate.
 set -e

@@ -1,6 +1,6 @@
 //! The values of what is written.
 
-ghost use Rattle.std.specs.Prelude.{◌≡◌, [], List, map};
+ghost use Rattle.std.specs.Prelude.{◌≡◌, ℕ, [], ◌∷◌, ◌++◌, List, map, Ok, IfSome};
 ghost use Rattle.ufl_syntax.specs.Spans.{word_at};
 ghost use Rattle.ufl_values.specs.declared.value.Value.{Value as AnyValue};
 ghost use Rattle.ufl_calls.specs.declared.made.Made.{Made as AllMade};
@@ -21,6 +21,7 @@ use ratio::Ratio;
 use sqlite_items::Items;
 use std::alloc::Global;
 use ufl_calls::{Given, Group, Made, along, called, text_value, transposed};
+use ufl_expr::MOST_NODES;
 use ufl_read::FormRefusal;
 use ufl_syntax::{Arg, Next, Post, Span, Syn};
 use ufl_values::{
@@ -195,6 +196,33 @@ fn call(
     whole(applied(alloc, line, made, head, bracket, given?))
 }
 
+/// The group with one more item for which it has no room: the item counts, and isn't copied.
+fn overfull(alloc: Global, group: &Group, item: &Shared) -> Option<Group>
+    ensures { (vs : List AnyValue) → IsGroup vs group.now → IfSome result (IsGroup (vs ++ item.now ∷ [])) }
+{
+    let nodes = group.nodes.saturating_add(item.nodes());
+    if nodes < MOST_NODES {
+        return None;
+    }
+    Some(Group {
+        alloc,
+        items: Items::new(alloc),
+        nodes,
+        height: group.height.max(item.height()),
+    })
+}
+
+/// The group with a name's value behind its items, where it has no room for that.
+fn counted(alloc: Global, group: &Group, item: &Result<Head, FormRefusal>) -> Option<Group>
+    ensures { (want : Refusable AnyHead) (m : AllMade) (line : ℕ) (vs : List AnyValue) → IsGroup vs group.now
+        → Finds item.now m want → IfSome result (λ all. Gathers (Ok all) m vs (worth line want)) }
+{
+    match item {
+        Ok(Head::Named(shared, _)) => overfull(alloc, group, shared),
+        Ok(Head::Whole(_)) | Ok(Head::Along(_, _)) | Err(_) => None,
+    }
+}
+
 /// One more item of a tuple or a list.
 fn gathered(
     alloc: Global,
@@ -205,6 +233,9 @@ fn gathered(
     ensures { (want : Refusable AnyHead) (m : AllMade) (vs : List AnyValue) → IsGroup vs group
         → Finds item m want → Gathers result m vs (worth line want) }
 {
+    if let Some(all) = counted(alloc, &group, &item) {
+        return Ok(all);
+    }
     let value = worth(alloc, line, item)?;
     let mut all = group;
     all.push(value)?;

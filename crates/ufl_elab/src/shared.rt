@@ -1,24 +1,25 @@
 //! Values that several names may share.
 
 ghost use Rattle.std.specs.Prelude.{◌≡◌, min, IfOk};
-ghost use Rattle.ufl_values.specs.Values.{nodes_of};
+ghost use Rattle.ufl_values.specs.Values.{nodes_of, height_of};
 
 use std::alloc::{AllocError, Global};
 use std::marker::Model;
 use std::rc::Rc;
-use ufl_values::{Value, copy_value, nodes_of};
+use ufl_values::{Value, copy_value, height_of, nodes_of};
 
-/// A value that several names may share, with its number of nodes. Contracts see it as the value.
+/// A value that several names may share, with its number of nodes and its height. Contracts see it as the value.
 #[derive(Drop)]
 pub struct Shared {
     value: Rc<Value>,
     nodes: u32,
+    height: u32,
 }
 
 impl Model for Shared {
     ghost use Rattle.ufl_values.specs.declared.value.Value.{Value as AnyValue};
     ghost use Rattle.std.specs.Prelude.{◌≡◌, min};
-    ghost use Rattle.ufl_values.specs.Values.{nodes_of};
+    ghost use Rattle.ufl_values.specs.Values.{nodes_of, height_of};
 
     ghost Value = { AnyValue };
 
@@ -29,7 +30,8 @@ impl Model for Shared {
 
     ghost view = { λ s. s.value.value };
 
-    ghost invariant = { λ s. s.nodes ≡ min (nodes_of s.value.value) 4294967295 };
+    ghost invariant = { λ s. (s.nodes ≡ min (nodes_of s.value.value) 4294967295)
+        × (s.height ≡ min (height_of s.value.value) 4294967295) };
 }
 
 impl Shared {
@@ -38,8 +40,13 @@ impl Shared {
         ensures { IfOk result (λ s. s ≡ value) }
     {
         let nodes = nodes_of(&value);
+        let height = height_of(&value);
         match Rc::new(alloc, value) {
-            Ok(value) => Ok(Shared { value, nodes }),
+            Ok(value) => Ok(Shared {
+                value,
+                nodes,
+                height,
+            }),
             Err(_) => Err(AllocError),
         }
     }
@@ -58,13 +65,25 @@ impl Shared {
         self.nodes
     }
 
+    /// The height of the value, at most 4,294,967,295.
+    pub fn height(&self) -> u32
+        ensures { result ≡ min (height_of self.now) 4294967295 }
+    {
+        self.height
+    }
+
     /// The same value once more, without a copy.
     pub fn share(&self) -> Result<Shared, AllocError>
         ensures { IfOk result (λ s. s ≡ self.now) }
     {
         let nodes = self.nodes;
+        let height = self.height;
         let value = self.value.clone()?;
-        Ok(Shared { value, nodes })
+        Ok(Shared {
+            value,
+            nodes,
+            height,
+        })
     }
 
     /// The value itself: a copy where something else holds it too.
