@@ -1,23 +1,14 @@
 -- Items as integrals of products
-use Rattle.std.proofs.Common.{◌≡◌, ℕ, ◌+◌, ◌*◌, ◌^◌, ◌<◌, ◌≤◌, false, is_none, Option, Some, None, List, [], ◌∷◌, ◌++◌, length, get_or, map, refl, sym, ap, ap₂, ◌∙◌, subst, arith}
+use Rattle.std.proofs.Common.{◌≡◌, ℕ, List, map, sym, ◌∙◌}
 use Rattle.std.specs.List.{flat_map, AllByRecursion}
-use Rattle.algebra.specs.Fraction.{Fraction, mul}
-use Rattle.algebra.specs.Over.{Over}
-use Rattle.algebra.specs.Steps.{product}
-use Rattle.algebra.proofs.OverLaws.{over_product}
-use Rattle.algebra.proofs.OverSteps.{product_fits}
-use Rattle.calculus.specs.Integral.{shadow_integral}
-use Rattle.calculus.specs.LocalFunction.{factorial}
-use Rattle.calculus.specs.Polynomial.{Polynomial, constant, constant_term}
-use Rattle.calculus.specs.Simplex.{reference}
-use Rattle.polyalg.specs.Terms.{value_of}
-use Rattle.polyalg.specs.ReferenceIntegral.{VariablesBelow, integral_steps}
+use Rattle.algebra.specs.Fraction.{mul}
+use Rattle.polyalg.specs.ReferenceIntegral.{VariablesBelow}
 use Rattle.polyalg.specs.declared.term.Term.{Term}
 use Rattle.ufl_tree.specs.declared.function.Role.TheVariants.{Test, Trial}
 use Rattle.monos.specs.declared.layout.Layout.{Layout}
 use Rattle.monos.specs.Monomial.{Monomial, directions}
 use Rattle.refint.specs.Local.{numbers_below}
-use Rattle.refint.specs.Reference.{items, item, digit_lists, node_counts, product_at}
+use Rattle.refint.specs.Reference.{items, digit_lists, node_counts, product_at}
 use Rattle.refint.proofs.Lists.{map_flat, map_map, flat_same}
 use Rattle.basis_products.specs.Functions.{IsBounded, AreBounded}
 use Rattle.basis_products.proofs.Lists.{all_weaken}

@@ -1,5 +1,5 @@
 -- One integral, and the steps that it takes
-use Rattle.std.proofs.Common.{◌≡◌, ℕ, ◌+◌, ◌*◌, ◌^◌, ◌<◌, ◌≤◌, false, is_none, Option, Some, None, List, refl, sym, ap, ◌∙◌, subst, arith, IfSome}
+use Rattle.std.proofs.Common.{◌≡◌, ℕ, ◌+◌, ◌*◌, ◌<◌, false, is_none, Option, Some, None, List, refl, sym, ap, ◌∙◌, subst, arith, IfSome}
 use Rattle.algebra.specs.Fraction.{Fraction, mul, zero_fraction}
 use Rattle.algebra.specs.Over.{Over}
 use Rattle.algebra.specs.Steps.{product}

@@ -14,7 +14,7 @@ use Rattle.refint.specs.Local.{numbers_below}
 use Rattle.refint.specs.Reference.{items}
 use Rattle.monomial_products.specs.declared.support.Support.{Support}
 use Rattle.monomial_products.specs.Supports.{node_at}
-use Rattle.monomial_products.specs.Products.{own_places, degree_left, denominator, coefficient_bound}
+use Rattle.monomial_products.specs.Products.{own_places}
 
 -- the integral over the reference cell
 abbrev pub integral_on : ℕ → Polynomial → Fraction

@@ -2,10 +2,12 @@
 #![tactic(auto)]
 
 mod integral;
+mod kept;
 pub mod laws;
 mod rows;
 
 pub use integral::integrals;
+pub use kept::{KeptRows, kept_rows};
 pub use rows::items;
 
 #[cfg(test)]

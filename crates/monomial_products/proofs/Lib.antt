@@ -5,3 +5,4 @@ pub mod PartLaws
 pub mod FormedLaws
 pub mod SkippedLaws
 pub mod SuffixLaws
+pub mod SupportLaws

@@ -32,7 +32,7 @@ on_repeated c zero ss on = tt
 on_repeated c (suc n) ss on = all_append (IsScalarOn c) ss (repeated n ss) on (on_repeated c n ss on)
 
 mutual
-  on_space : (s : Space) → IsLawful s → AllByRecursion (IsScalarOn (cell_of s)) (scalars s)
+  pub on_space : (s : Space) → IsLawful s → AllByRecursion (IsScalarOn (cell_of s)) (scalars s)
   on_space (scalar f c q) h = (record { degree = degree_few f q h; nodes = refl }, tt)
   on_space (vector s n) h = on_repeated (cell_of s) n (scalars s) (on_space s h.0)
   on_space (tensor s m n) h = on_repeated (cell_of s) (m * n) (scalars s) (on_space s h.0)

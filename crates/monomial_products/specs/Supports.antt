@@ -1,5 +1,5 @@
 -- The local nodes of an argument at which a product of atoms may be other than 0
-use Rattle.std.specs.Prelude.{◌≡◌, ℕ, ◌+◌, ◌-◌, ◌==◌, ◌&&◌, nat_le, nat_lt, Bool, true, false, if◌then◌else◌, List, Option, None, Some, slice_get}
+use Rattle.std.specs.Prelude.{◌≡◌, ℕ, ◌+◌, ◌-◌, ◌==◌, ◌&&◌, nat_le, nat_lt, Bool, true, false, if◌then◌else◌, List, [], ◌∷◌, Option, None, Some, slice_get}
 use Rattle.std.specs.List.{AllByRecursion}
 use Rattle.spaces.specs.declared.parts.Part.{Part}
 use Rattle.ufl_tree.specs.declared.function.Role.{Role}
@@ -35,6 +35,22 @@ is_role Trial Trial = true
 is_role Position Position = true
 is_role (Coefficient m) (Coefficient n) = m == n
 is_role _ _ = false
+
+-- what is left of a support where one more atom is of this part; the parts of a function begin at different nodes
+abbrev pub narrowed : Support → Option Part → Support
+narrowed s None = Nowhere
+narrowed Everywhere (Some p) = OnPart p
+narrowed (OnPart q) (Some p) = if q.offset == p.offset then OnPart q else Nowhere
+narrowed Nowhere (Some p) = Nowhere
+
+-- where the atoms of an argument let a product be other than 0, within what is left so far
+abbrev pub support_from : Support → Layout → Role → List Atom → Support
+support_from s l r [] = s
+support_from s l r (x ∷ xs) =
+    support_from (if is_role x.f.role r then narrowed s (slice_get (role_parts l r) x.component) else s) l r xs
+
+abbrev pub support_of : Layout → Role → List Atom → Support
+support_of l r xs = support_from Everywhere l r xs
 
 -- each atom of the argument is of the support's part
 abbrev pub AreOn : Layout → Role → Support → List Atom → Type 0

@@ -7,7 +7,7 @@ ghost use Rattle.monos.specs.declared.mono.Atom.{Atom};
 ghost use Rattle.monos.specs.Layout.{IsLawfulLayout};
 ghost use Rattle.monomial_products.specs.declared.support.Support.{Support};
 ghost use Rattle.monomial_products.specs.Supports.{AreOn};
-ghost use Rattle.monomial_products.specs.Products.{is_alive, are_alive, source_of as source_in, IsSmall, HaveSmallProducts, AreProductsBounded};
+ghost use Rattle.monomial_products.specs.Products.{is_alive as is_alive_atom, are_alive as are_alive_atoms, source_of as source_in, IsSmall, HaveSmallProducts, AreProductsBounded};
 ghost use Rattle.monomial_products.specs.Formed.{IsFactorOf, AreProductsOf, IsReady, HaveSupports};
 
 use crate::places::{derivative_count, part_of};
@@ -28,10 +28,32 @@ fn source_of(role: Role) -> Source
     }
 }
 
+/// Whether an atom's function isn't 0: it has a part, of at least the degree that it is derived.
+fn is_alive(l: &Layout, atom: Atom) -> bool
+    ensures { result ≡ is_alive_atom l.now atom }
+{
+    match part_of(l, atom) {
+        Some(part) => derivative_count(atom) <= part.degree as u16,
+        None => false,
+    }
+}
+
+/// Whether no atom's function is 0.
+pub fn are_alive(l: &Layout, atoms: &[Atom]) -> bool
+    ensures { result ≡ are_alive_atoms l.now atoms.now }
+{
+    for atom in atoms {
+        if !is_alive(l, *atom) {
+            return false;
+        }
+    }
+    true
+}
+
 /// The functions of an atom that isn't 0, with the derivatives. No step passes.
 pub fn factor(alloc: Global, l: &Layout, atom: Atom) -> Result<Factor, PolyFault>
     requires layout { IsLawfulLayout l.now }
-    requires alive { is_alive l.now atom ≡ true }
+    requires alive { is_alive_atom l.now atom ≡ true }
     ensures value { IfOk result (IsFactorOf l.now atom) }
     ensures fits { RangeWhere false result }
 {
@@ -55,7 +77,7 @@ fn with_atom(
     products: Products,
 ) -> Result<Products, PolyFault>
     requires layout { IsLawfulLayout l.now }
-    requires alive { is_alive l.now atom ≡ true }
+    requires alive { is_alive_atom l.now atom ≡ true }
     requires ready { (xs : List Atom) × IsReady l.now atom xs products }
     ensures value { (xs : List Atom) (tests trials : Support) → AreProductsOf l.now tests trials xs products
         → AreOn l.now Test tests (atom ∷ xs) → AreOn l.now Trial trials (atom ∷ xs)
@@ -76,7 +98,7 @@ fn with_atom(
 pub fn products(alloc: Global, l: &Layout, atoms: &[Atom]) -> Result<Products, PolyFault>
     requires layout { IsLawfulLayout l.now }
     requires small { IsSmall l.now atoms.now }
-    requires alive { are_alive l.now atoms.now ≡ true }
+    requires alive { are_alive_atoms l.now atoms.now ≡ true }
     requires supports { HaveSupports l.now atoms.now }
     ensures value { (tests trials : Support) → AreOn l.now Test tests atoms.now → AreOn l.now Trial trials atoms.now
         → IfOk result (AreProductsOf l.now tests trials atoms.now) }

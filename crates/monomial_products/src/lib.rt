@@ -6,6 +6,6 @@ pub mod laws;
 mod places;
 mod support;
 
-pub use formed::{factor, products};
+pub use formed::{are_alive, factor, products};
 pub use places::{derivative_count, part_of};
-pub use support::Support;
+pub use support::{Support, test_support, trial_support};

@@ -21,7 +21,7 @@ fn place_of(places: &[CoefPlace], number: u32) -> Option<&CoefPlace>
 }
 
 /// The part of a component.
-fn component_of(parts: &Parts, component: u8) -> Option<Part>
+pub fn component_of(parts: &Parts, component: u8) -> Option<Part>
     ensures { result ≡ slice_get parts.now.items component }
 {
     parts.items.get(component as usize).copied()

@@ -1,10 +1,9 @@
-use Rattle.std.proofs.Common.{◌≡◌, List, map, ap, sym, subst, ◌∙◌, refl}
+use Rattle.std.proofs.Common.{List, map, ap, sym, subst, ◌∙◌, refl}
 use Rattle.std.specs.List.{AllByRecursion}
 use Rattle.ratio.specs.Value.{fraction_of}
 use Rattle.polyalg.specs.Prelude.{value_of, VariablesBelow}
 use Rattle.polyalg.specs.declared.term.Term.{Term}
 use Rattle.ufl_tree.specs.declared.function.Role.TheVariants.{Test, Trial}
-use Rattle.monos.specs.declared.mono.Atom.{Atom}
 use Rattle.monos.specs.Monomial.{monomial_of}
 use Rattle.lagrange.proofs.Sizes.{never}
 use Rattle.monomial_products.specs.Supports.{AreOn}
