@@ -1,6 +1,6 @@
 -- Integrals of products, and what keeps their steps from passing
 use Rattle.std.specs.Prelude.{ℕ, ◌+◌, ◌*◌, ◌^◌, ◌<◌, List, map}
-use Rattle.std.specs.List.{flat_map}
+use Rattle.std.specs.List.{flat_map, AllByRecursion}
 use Rattle.algebra.specs.Fraction.{Fraction, mul}
 use Rattle.algebra.specs.Over.{Over}
 use Rattle.calculus.specs.Integral.{shadow_integral}
@@ -9,12 +9,15 @@ use Rattle.calculus.specs.Polynomial.{Polynomial, constant_term}
 use Rattle.calculus.specs.Simplex.{reference}
 use Rattle.ufl_tree.specs.declared.function.Role.TheVariants.{Test, Trial}
 use Rattle.monos.specs.declared.layout.Layout.{Layout}
+use Rattle.monos.specs.declared.mono.Atom.{Atom}
 use Rattle.monos.specs.Monomial.{Monomial}
+use Rattle.ratio.specs.declared.reduced.Ratio.{Ratio}
+use Rattle.ratio.specs.Value.{fraction_of}
 use Rattle.refint.specs.Local.{numbers_below}
 use Rattle.refint.specs.Reference.{items}
 use Rattle.monomial_products.specs.declared.support.Support.{Support}
 use Rattle.monomial_products.specs.Supports.{node_at}
-use Rattle.monomial_products.specs.Products.{own_places}
+use Rattle.monomial_products.specs.Products.{own_places, degree_left, denominator, coefficient_bound}
 
 -- the integral over the reference cell
 abbrev pub integral_on : ℕ → Polynomial → Fraction
@@ -39,3 +42,9 @@ pub record AreFitting (d n l b : ℕ) (c : Fraction) : Type 0 where
   pub sum : b * factorial (n + d) < 2 ^ 127
   pub denominator : j * (l * factorial (n + d)) < 2 ^ 127
   pub size : i * (b * factorial (n + d)) < 2 ^ 127
+
+-- the items of atoms with a number over j that is at most i there
+abbrev pub AreWithin : Layout → List Atom → ℕ → ℕ → List Ratio → Type 0
+AreWithin l xs j i rs =
+    AllByRecursion
+    (λ x. Over (j * (denominator l xs * factorial (degree_left l xs + l.d))) (i * (coefficient_bound l xs * factorial (degree_left l xs + l.d))) (fraction_of x)) rs

@@ -1,6 +1,7 @@
 //! The rows of a monomial's reference tensor that may be other than 0.
 
-ghost use Rattle.std.specs.Prelude.{◌≡◌, ◌<◌, true, false, map, IfOk};
+ghost use Rattle.std.specs.Prelude.{◌≡◌, ℕ, ◌<◌, true, false, map, IfOk};
+ghost use Rattle.algebra.specs.Over.{Over};
 ghost use Rattle.ratio.specs.Value.{fraction_of};
 ghost use Rattle.polyalg.specs.Prelude.{RangeWhere};
 ghost use Rattle.ufl_tree.specs.declared.function.Role.TheVariants.{Test, Trial};
@@ -8,7 +9,7 @@ ghost use Rattle.monos.specs.Layout.{IsLawfulLayout};
 ghost use Rattle.monos.specs.Monomial.{monomial_of};
 ghost use Rattle.monomial_products.specs.Supports.{places_at, support_of, AreOn};
 ghost use Rattle.monomial_products.specs.Products.{are_alive as are_alive_atoms, IsSmall, HaveSmallProducts, degree_left, denominator, coefficient_bound};
-ghost use Rattle.monomial_items.specs.Integrals.{AreFitting};
+ghost use Rattle.monomial_items.specs.Integrals.{AreFitting, AreWithin};
 ghost use Rattle.monomial_items.specs.Kept.{tests_of, kept_items};
 
 use crate::rows::items;
@@ -51,6 +52,9 @@ pub fn kept_rows(alloc: Global, l: &Layout, m: &Mono) -> Result<KeptRows, PolyFa
     ensures trials { IfOk result (λ k. k.trials ≡ support_of l.now Trial m.now.atoms) }
     ensures items { IfOk result (λ k. map fraction_of k.items.items ≡ kept_items l.now k.tests k.trials
         (monomial_of m.now)) }
+    ensures bounds { (j i : ℕ) → Over j i (fraction_of m.now.c) → AreFitting l.now.d (degree_left l.now m.now.atoms)
+        (denominator l.now m.now.atoms) (coefficient_bound l.now m.now.atoms) (fraction_of m.now.c)
+        → IfOk result (λ v. AreWithin l.now m.now.atoms j i v.items.items) }
     ensures range { HaveSmallProducts l.now m.now.atoms → AreFitting l.now.d (degree_left l.now m.now.atoms)
         (denominator l.now m.now.atoms) (coefficient_bound l.now m.now.atoms) (fraction_of m.now.c)
         → RangeWhere false result }

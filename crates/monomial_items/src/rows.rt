@@ -1,6 +1,7 @@
 //! The items of a monomial's rows.
 
-ghost use Rattle.std.specs.Prelude.{◌≡◌, true, false, map, IfOk};
+ghost use Rattle.std.specs.Prelude.{◌≡◌, ℕ, true, false, map, IfOk};
+ghost use Rattle.algebra.specs.Over.{Over};
 ghost use Rattle.ratio.specs.Value.{fraction_of};
 ghost use Rattle.polyalg.specs.Prelude.{RangeWhere};
 ghost use Rattle.ufl_tree.specs.declared.function.Role.TheVariants.{Test, Trial};
@@ -10,7 +11,7 @@ ghost use Rattle.monomial_products.specs.declared.support.Support.{Support};
 ghost use Rattle.monomial_products.specs.Supports.{AreOn};
 ghost use Rattle.monomial_products.specs.Products.{are_alive, IsSmall, HaveSmallProducts, degree_left, denominator, coefficient_bound};
 ghost use Rattle.monomial_products.specs.Formed.{HaveSupports};
-ghost use Rattle.monomial_items.specs.Integrals.{items_at, AreFitting};
+ghost use Rattle.monomial_items.specs.Integrals.{items_at, AreFitting, AreWithin};
 
 use crate::integral::integrals;
 use monomial_products::products;
@@ -28,6 +29,9 @@ pub fn items(alloc: Global, l: &Layout, m: &Mono) -> Result<Vec<Ratio>, PolyFaul
     requires supports { HaveSupports l.now m.now.atoms }
     ensures value { (tests trials : Support) → AreOn l.now Test tests m.now.atoms → AreOn l.now Trial trials m.now.atoms
         → IfOk result (λ v. map fraction_of v.items ≡ items_at l.now tests trials (monomial_of m.now)) }
+    ensures bounds { (j i : ℕ) → Over j i (fraction_of m.now.c) → AreFitting l.now.d (degree_left l.now m.now.atoms)
+        (denominator l.now m.now.atoms) (coefficient_bound l.now m.now.atoms) (fraction_of m.now.c)
+        → IfOk result (λ v. AreWithin l.now m.now.atoms j i v.items) }
     ensures range { HaveSmallProducts l.now m.now.atoms → AreFitting l.now.d (degree_left l.now m.now.atoms)
         (denominator l.now m.now.atoms) (coefficient_bound l.now m.now.atoms) (fraction_of m.now.c)
         → RangeWhere false result }

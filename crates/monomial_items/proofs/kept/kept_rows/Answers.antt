@@ -1,4 +1,4 @@
-use Rattle.std.proofs.Common.{◌≡◌, ◌<◌, not, ◌&&◌, map, ap, subst, ◌∙◌, refl, arith}
+use Rattle.std.proofs.Common.{sym, ◌≡◌, ◌<◌, not, ◌&&◌, map, ap, subst, ◌∙◌, refl, arith}
 use Rattle.algebra.specs.Fraction.{is_zero_fraction}
 use Rattle.ratio.specs.Value.{fraction_of}
 use Rattle.ufl_tree.specs.declared.function.Role.TheVariants.{Test, Trial}
@@ -6,6 +6,7 @@ use Rattle.monos.specs.Monomial.{monomial_of}
 use Rattle.monomial_products.specs.declared.support.Support.TheVariants.{Nowhere}
 use Rattle.monomial_products.specs.Supports.{places_at, support_of, AreOn}
 use Rattle.monomial_products.specs.Products.{are_alive}
+use Rattle.monomial_items.specs.Integrals.{AreWithin}
 use Rattle.monomial_items.proofs.KeptLaws.{kept_are, no_trials, chosen}
 use Rattle.monomial_items.proofs.kept.kept_rows.Goals as goal
 
@@ -27,3 +28,9 @@ returns-clause-items c =
     c.in_ok-items.ensures.value tests trials (c.test_nodes-tests.ensures.on c.requires.layout some)
     (subst (AreOn l Trial trials) c.as_slice.ensures (c.trial_support-trials.ensures.on c.requires.layout any))
     ∙ kept_are l tests trials m here (c.trial_support-trials.ensures.value ∙ ap (support_of l Trial) c.as_slice.ensures)
+
+pub returns-then-places-eq0-clause-bounds : goal.returns-then-places-eq0-clause-bounds
+returns-then-places-eq0-clause-bounds c j i o f = subst (AreWithin c.args.l.now c.args.m.now.atoms j i) (sym c.new.ensures.items) tt
+
+pub returns-then-places-eq0-2-clause-bounds : goal.returns-then-places-eq0-2-clause-bounds
+returns-then-places-eq0-2-clause-bounds c j i o f = subst (AreWithin c.args.l.now c.args.m.now.atoms j i) (sym c.new-then-places-eq0-2.ensures.items) tt

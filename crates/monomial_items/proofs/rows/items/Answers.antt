@@ -43,3 +43,12 @@ pub returns-in_err-products-clause-range : goal.returns-in_err-products-clause-r
 returns-in_err-products-clause-range c small f =
     never _ c.from_residual.result _ c.in_err-products.field-0.0 c.from_residual.ensures.0 c.from_residual.ensures.1 refl
     (c.in_err-products.ensures.range (subst (HaveSmallProducts c.args.l.now) (sym c.as_slice.ensures) small))
+
+pub returns-clause-bounds : goal.returns-clause-bounds
+returns-clause-bounds c j i o f =
+    let l = c.args.l.now in
+    let s = c.requires.supports in
+    let p = c.in_ok-products.ensures.value s.tests s.trials (subst (AreOn l Test s.tests) (sym c.as_slice.ensures) s.on_tests) (subst (AreOn l Trial s.trials) (sym c.as_slice.ensures) s.on_trials) in
+    let b = subst (λ xs. AreProductsBounded l xs c.in_ok-products.products.items.items) c.as_slice.ensures p.bounds in
+    let q = subst (AreProductsBounded l c.args.m.now.atoms) (sym c.as_slice-2.ensures.value) b in
+    c.in_ok-items.ensures.bounds (degree_left l c.args.m.now.atoms) (denominator l c.args.m.now.atoms) (coefficient_bound l c.args.m.now.atoms) j i (denominator_positive l c.args.m.now.atoms) o q f
