@@ -1,0 +1,5 @@
+pub mod Lists
+pub mod DegreeLaws
+pub mod FunctionLaws
+pub mod OrderLaws
+pub mod ProductLaws

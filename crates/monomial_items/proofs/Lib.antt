@@ -1,0 +1,4 @@
+pub mod ItemLaws
+pub mod StepLaws
+pub mod KeptLaws
+pub mod ZeroLaws

@@ -1,0 +1,2 @@
+pub mod Integrals
+pub mod Kept
