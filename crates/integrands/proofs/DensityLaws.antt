@@ -22,11 +22,12 @@ use Rattle.lower.proofs.FittingLaws.{fitting_kept}
 use Rattle.passes.specs.Component.{first_name}
 use Rattle.perturb.proofs.CoefficientsOf.{coefficient_laws}
 use Rattle.derivatives.proofs.ExpansionLaws.{expanded_means, expanded_ready}
+use Rattle.typing.specs.Parts.{ArePartsFitting}
 use Rattle.integrands.specs.declared.operator.Operator.{Operator}
 use Rattle.integrands.specs.declared.operator.Operator.TheVariants.{Scale, Left, Right, Action, Adjoint, Derivative}
 use Rattle.integrands.specs.Flattening.{under, integrand_term, flattened}
 use Rattle.integrands.specs.Integrands.{IntegrandTerm, integrand_value, integrands_value, with_body}
-use Rattle.integrands.specs.Keeping.{acted, AreExpanded, FormIsFitting, HaveDensity}
+use Rattle.integrands.specs.Keeping.{acted, AreExpanded, HaveDensity}
 use Rattle.integrands.proofs.OperatorLaws.{acted_nil, is_under, under_ready}
 
 -- ---- operators are additive, and see densities only where no parameter is in use that isn't
@@ -95,7 +96,7 @@ module _ (elements : Table) (lawful : IsLawfulTable elements) where
       value_under op elements (flattened elements f) (are_expanded elements f) env u
       ∙ acted_same op (integrands_value elements (flattened elements f)) (density elements f) h env u
 
-  pub have_density : (f : FormTerm) → FormIsFitting elements f → HaveDensity elements f (flattened elements f)
+  pub have_density : (f : FormTerm) → ArePartsFitting elements f → HaveDensity elements f (flattened elements f)
   have_density (integral on e) h env u = plus-nil _ ∙ go (covers on env.marker)
     where
       go : (t : Bool) → (if t then meaning elements (integrand_term elements e) env no_names else nil) ≡ (if t then value elements e env [] no_names else nil)

@@ -21,11 +21,12 @@ use Rattle.lower.proofs.ShareLaws.{shares_weigh}
 use Rattle.passes.specs.Component.{first_name}
 use Rattle.perturb.proofs.LinearLaws.{linear_both}
 use Rattle.derivatives.proofs.ExpansionLaws.{expanded_bounds}
+use Rattle.typing.specs.Parts.{ArePartsFitting}
 use Rattle.integrands.specs.declared.operator.Operator.{Operator}
 use Rattle.integrands.specs.declared.operator.Operator.TheVariants.{Scale, Left, Right, Action, Adjoint, Derivative}
 use Rattle.integrands.specs.Flattening.{under, integrand_term, flattened}
 use Rattle.integrands.specs.Integrands.{IntegrandTerm, with_body}
-use Rattle.integrands.specs.Keeping.{FormIsFitting, chosen, total_weight, BoundsTotal, HaveWeight}
+use Rattle.integrands.specs.Keeping.{chosen, total_weight, BoundsTotal, HaveWeight}
 use Rattle.integrands.proofs.PlusLaws.{plus_first, plus_second, plus_brackets, times_plus}
 use Rattle.integrands.proofs.WeightLaws.{weight_under, under_bounds}
 
@@ -136,7 +137,7 @@ module _ (elements : Table) where
       expanded_bounds (lower share_of elements e Named [] (first_name e [])) elements (weight_with exact elements e)
       (lower_bounds elements share_of shares_weigh e fit Named [] (first_name e []) (omega arith))
 
-  pub have_weight : (f : FormTerm) → FormIsFitting elements f → HaveWeight elements f (flattened elements f)
+  pub have_weight : (f : FormTerm) → ArePartsFitting elements f → HaveWeight elements f (flattened elements f)
   have_weight (integral on e) h [] = tt
   have_weight (integral on e) h (true ∷ bs) = one_chosen bs
     where

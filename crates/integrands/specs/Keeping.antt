@@ -4,14 +4,12 @@ use Rattle.ratio.specs.Value.{fraction_of}
 use Rattle.calculus.specs.Polynomial.{Polynomial, times, negative, constant, coefficient_of}
 use Rattle.ufl_tree.specs.declared.function.Role.TheVariants.{Trial}
 use Rattle.ufl_tree.specs.FormTerm.{FormTerm}
-use Rattle.ufl_tree.specs.Functions.{EachPart}
 use Rattle.ufl_tree.specs.Places.{Table}
 use Rattle.ufl_meaning.specs.Environment.{parameter_number}
 use Rattle.ufl_meaning.specs.Prelude.{Environment, HasOnlyUsed, turned, scaled, with_function, exchanged, density}
 use Rattle.monos.specs.declared.weight.Weight.{Weight}
 use Rattle.weigh.specs.Prelude.{Bounds, exact, term_weight}
 use Rattle.weigh.specs.Weighing.{plus_weight, form_weight}
-use Rattle.lower.specs.Fitting.{IsFitting}
 use Rattle.derivatives.specs.Expanded.{IsExpanded}
 use Rattle.integrands.specs.declared.operator.Operator.{Operator}
 use Rattle.integrands.specs.declared.operator.Operator.TheVariants.{Scale, Left, Right, Action, Adjoint, Derivative}
@@ -44,10 +42,6 @@ pub record IsApplied (op : Operator) (p q : IntegrandTerm) : Type 0 where
 abbrev pub AreExpanded : List IntegrandTerm → Type 0
 AreExpanded [] = Unit {0}
 AreExpanded (p ∷ ps) = IsExpanded p.body × AreExpanded ps
-
--- ranks and cells of the integrands are those of typing
-abbrev pub FormIsFitting : Table → FormTerm → Type 0
-FormIsFitting elements = EachPart (IsFitting elements) (λ f g. Unit {0})
 
 -- the integrands add up to the density of the form
 abbrev pub HaveDensity : Table → FormTerm → List IntegrandTerm → Type 0

@@ -3,16 +3,18 @@
 ghost use Rattle.std.specs.Prelude.{◌≡◌, ◌++◌, IfOk, [], ◌∷◌, map};
 ghost use Rattle.ufl_tree.specs.Places.{table_of};
 ghost use Rattle.ufl_tree.specs.Reading.{typed_of};
+ghost use Rattle.ufl_form.specs.Fits.{Fits};
 ghost use Rattle.ufl_form.specs.Reading.{form_of};
 ghost use Rattle.integrands.specs.Integrands.{integrands_of, with_body};
 ghost use Rattle.integrands.specs.Flattening.{under, integrand_term, flattened};
-ghost use Rattle.integrands.specs.Keeping.{AreExpanded, FormIsFitting, HaveDensity, HaveWeight};
+ghost use Rattle.integrands.specs.Keeping.{AreExpanded, HaveDensity, HaveWeight};
 
 use crate::integrand::Integrand;
 use crate::operator::Operator;
 use derivatives::expand;
 use passes::lower;
 use std::alloc::{AllocError, Global};
+use typing::fitting;
 use ufl_expr::{Elements, Expr};
 use ufl_form::{Form, FormTree};
 use ufl_tree::On;
@@ -109,8 +111,8 @@ fn with_changed(
 }
 
 /// The integrands of a form in index notation, one for each integral, from left to right: the operators on the form
-/// and all derivatives are carried out. They add up to the density of the form, and its weight bounds the sum of
-/// each choice of them.
+/// and all derivatives are carried out. Where the form fits the elements, as those that a file exports do, they add up
+/// to its density, and its weight bounds the sum of each choice of them.
 pub fn flatten(
     alloc: Global,
     form: &Form,
@@ -119,12 +121,13 @@ pub fn flatten(
     ensures tree { IfOk result (λ all. integrands_of all.items
         ≡ flattened (table_of elements.now) (form_of form.now)) }
     ensures expanded { IfOk result (λ all. AreExpanded (integrands_of all.items)) }
-    ensures density { FormIsFitting (table_of elements.now) (form_of form.now)
+    ensures density { Fits (table_of elements.now) form.now
         → IfOk result (λ all. HaveDensity (table_of elements.now) (form_of form.now) (integrands_of all.items)) }
-    ensures weight { FormIsFitting (table_of elements.now) (form_of form.now)
+    ensures weight { Fits (table_of elements.now) form.now
         → IfOk result (λ all. HaveWeight (table_of elements.now) (form_of form.now) (integrands_of all.items)) }
 {
     // Lowering keeps the meaning over lawful elements.
     elements.lawful();
+    fitting(form, elements);
     with_form(alloc, elements, form.tree(), Vec::new(alloc))
 }

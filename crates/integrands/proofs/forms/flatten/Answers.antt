@@ -31,7 +31,7 @@ returns-clause-density c = λ fit.
     ok_then c.with_form.result
     (λ all h. subst (λ (ps : List IntegrandTerm). HaveDensity (table_of c.args.elements.now) (form_of c.args.form.now) ps)
     (sym (whole (table_of c.args.elements.now) _ all.items _ _ c.new.ensures.items c.tree.ensures.same h))
-    (have_density (table_of c.args.elements.now) c.lawful.ensures (form_of c.args.form.now) fit))
+    (have_density (table_of c.args.elements.now) c.lawful.ensures (form_of c.args.form.now) (c.fitting.ensures fit)))
     c.with_form.ensures
 
 pub returns-clause-weight : goal.returns-clause-weight
@@ -39,5 +39,5 @@ returns-clause-weight c = λ fit.
     ok_then c.with_form.result
     (λ all h. subst (λ (ps : List IntegrandTerm). HaveWeight (table_of c.args.elements.now) (form_of c.args.form.now) ps)
     (sym (whole (table_of c.args.elements.now) _ all.items _ _ c.new.ensures.items c.tree.ensures.same h))
-    (have_weight (table_of c.args.elements.now) (form_of c.args.form.now) fit))
+    (have_weight (table_of c.args.elements.now) (form_of c.args.form.now) (c.fitting.ensures fit)))
     c.with_form.ensures

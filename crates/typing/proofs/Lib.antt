@@ -1,0 +1,4 @@
+pub mod ShapeLaws
+pub mod FreeLaws
+pub mod FittingLaws
+pub mod LabelLaws
