@@ -5,3 +5,4 @@ pub mod Forms
 pub mod Counts
 pub mod Ranks
 pub mod Multilinear
+pub mod Directions
