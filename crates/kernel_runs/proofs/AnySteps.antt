@@ -52,7 +52,7 @@ any_preamble : (v : Simplex) → PreambleFits Any v
 any_preamble [] = tt
 any_preamble (a ∷ []) = tt
 any_preamble (a ∷ b ∷ []) = λ i a h g e. tt
-any_preamble (a ∷ b ∷ c ∷ []) = record { differences = λ i a h g e. tt; main = λ e. tt; other = λ e. tt; volume_factor = λ e. tt; turned = λ n i a e. tt; growth = λ n i a h g e. tt }
+any_preamble (a ∷ b ∷ c ∷ []) = record { differences = λ i a h g e. tt; main = λ e. tt; other = λ e. tt; volume_factor = λ e. tt; turned = λ n i a h g o e. tt; growth = λ n i a h g e. tt }
 any_preamble (a ∷ b ∷ c ∷ e ∷ []) = record {
   differences = λ i a h g e. tt;
   main = λ i a h g e. tt;

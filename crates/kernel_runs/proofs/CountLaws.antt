@@ -44,7 +44,7 @@ counted_next scratch row cur t width (suc n) = ap (λ k. k + 0) (counted-For (su
     three : (n : ℕ) → n * 3 + 0 ≡ 3 * n
     three n = omega arith
 
-counted_rows : (scratch row cur t rows m : ℕ) → counted (rows_code scratch row cur t rows m) ≡ rows * (2 + 3 * m)
+pub counted_rows : (scratch row cur t rows m : ℕ) → counted (rows_code scratch row cur t rows m) ≡ rows * (2 + 3 * m)
 counted_rows scratch row cur t rows m =
     counted-For rows _
     ∙ ap (λ n. rows * n) (counted_append (first_product (stepped scratch 0 0) (stepped row 1 0) (stepped cur 0 0) t (stepped 0 (suc m) 0)) (next_products scratch row (cur + 1) t (suc m) m) ∙ ap (λ n. 2 + n) (counted_next scratch row (cur + 1) t (suc m) m))
@@ -61,7 +61,7 @@ counted_rest scratch out cur t at (r ∷ rs) =
     chosen (is_zero_fraction r) _ _ (3 * length (r ∷ rs)) (omega arith)
     (subst (λ n. n ≤ 3 * length (r ∷ rs)) (sym (counted_append (next_product (stepped scratch 0 0) (stepped out 0 0) (stepped cur 0 0) t (stepped at 0 0)) (straight_rest scratch out (cur + 1) t (at + 1) rs))) (omega arith))
 
-counted_row : (scratch out cur t at : ℕ) (rs : List Fraction) (m : ℕ) → length rs ≤ suc m → counted_list (straight_row scratch out cur t at rs) ≤ 2 + 3 * m
+pub counted_row : (scratch out cur t at : ℕ) (rs : List Fraction) (m : ℕ) → length rs ≤ suc m → counted_list (straight_row scratch out cur t at rs) ≤ 2 + 3 * m
 counted_row scratch out cur t at [] m h = omega arith
 counted_row scratch out cur t at (r ∷ rs) m h =
     let rest : counted_list (straight_rest scratch out (cur + 1) t (at + 1) rs) ≤ 3 * length rs = counted_rest scratch out (cur + 1) t (at + 1) rs in
@@ -75,7 +75,7 @@ counted_entry scratch row e NoRow = refl
 counted_entry scratch row e (Counted b) = refl
 counted_entry scratch row e (Multiple l b) = refl
 
-counted_entries : (scratch row e : ℕ) (es : List Entry) → counted_list (entries_code scratch row e es) ≡ entries_count es
+pub counted_entries : (scratch row e : ℕ) (es : List Entry) → counted_list (entries_code scratch row e es) ≡ entries_count es
 counted_entries scratch row e [] = refl
 counted_entries scratch row e (x ∷ es) =
     counted_append (entry_code scratch row e x) (entries_code scratch row (e + 1) es) ∙ ap₂ ◌+◌ (counted_entry scratch row e x) (counted_entries scratch row (e + 1) es)

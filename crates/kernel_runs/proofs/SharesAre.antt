@@ -24,12 +24,12 @@ factors_mapped f cs ds = first f ds cs
     first f (d ∷ ds) cs = ap (λ l. Fastest (f d) ∷ l) (first f ds cs)
 
 -- ---- products of rows
-dot_scaled : (a : Fraction) (xs ys : List Fraction) → dot (map (mul a) xs) ys ≡ mul a (dot xs ys)
+pub dot_scaled : (a : Fraction) (xs ys : List Fraction) → dot (map (mul a) xs) ys ≡ mul a (dot xs ys)
 dot_scaled a [] ys = sym (L.mul-zero fractions a)
 dot_scaled a (x ∷ xs) [] = sym (L.mul-zero fractions a)
 dot_scaled a (x ∷ xs) (y ∷ ys) = ap₂ add (mul_assoc a x y) (dot_scaled a xs ys) ∙ sym (mul_add a (mul x y) (dot xs ys))
 
-scaled_dot : (a : Fraction) (xs ys : List Fraction) → dot xs (map (mul a) ys) ≡ mul a (dot xs ys)
+pub scaled_dot : (a : Fraction) (xs ys : List Fraction) → dot xs (map (mul a) ys) ≡ mul a (dot xs ys)
 scaled_dot a [] ys = sym (L.mul-zero fractions a)
 scaled_dot a (x ∷ xs) [] = sym (L.mul-zero fractions a)
 scaled_dot a (x ∷ xs) (y ∷ ys) = ap₂ add (turned a x y) (scaled_dot a xs ys) ∙ sym (mul_add a (mul x y) (dot xs ys))
@@ -37,7 +37,7 @@ scaled_dot a (x ∷ xs) (y ∷ ys) = ap₂ add (turned a x y) (scaled_dot a xs y
     turned : (a x y : Fraction) → mul x (mul a y) ≡ mul a (mul x y)
     turned a x y = sym (mul_assoc x a y) ∙ ap (λ z. mul z y) (mul_comm x a) ∙ mul_assoc a x y
 
-no_dot : (xs ys : List Fraction) → AllZero ys → dot xs ys ≡ zero_fraction
+pub no_dot : (xs ys : List Fraction) → AllZero ys → dot xs ys ≡ zero_fraction
 no_dot [] ys h = refl
 no_dot (x ∷ xs) [] h = refl
 no_dot (x ∷ xs) (y ∷ ys) h = ap₂ add (ap (mul x) h.0 ∙ L.mul-zero fractions x) (no_dot xs ys h.1) ∙ add_zero zero_fraction

@@ -1,5 +1,5 @@
 -- The first statements of a planned kernel: volume factor, its reciprocal and size, and the inverse Jacobian
-use Rattle.std.specs.Prelude.{◌≡◌, ℕ, zero, suc, ◌+◌, ◌*◌, ◌<◌, List, [], ◌∷◌, ◌++◌, length, map, take, false, None, nat_lt, if◌then◌else◌}
+use Rattle.std.specs.Prelude.{◌≡◌, ◌≢◌, ℕ, zero, suc, ◌+◌, ◌*◌, ◌<◌, List, [], ◌∷◌, ◌++◌, length, map, take, false, None, nat_lt, if◌then◌else◌}
 use Rattle.algebra.specs.Fraction.{Fraction, absolute, add, is_zero_fraction, mul, zero_fraction}
 use Rattle.algebra.specs.Steps.{difference, fits, sum}
 use Rattle.calculus.specs.Simplex.{Simplex, along_axis, volume}
@@ -126,7 +126,8 @@ pub record TriangleFits (Q : Type 0) (v : Simplex) : Type 0 where
   pub other : fits (mul (jacobian v 0 1) (jacobian v 1 0)) ≡ false → Q
   pub volume_factor : difference (mul (jacobian v 0 0) (jacobian v 1 1)) (mul (jacobian v 0 1) (jacobian v 1 0)) ≡ None
       → Q
-  pub turned : is_zero_fraction (volume v) ≡ false → (i a : ℕ) → difference zero_fraction (jacobian v i a) ≡ None → Q
+  pub turned : is_zero_fraction (volume v) ≡ false → (i a : ℕ) → i < 2 → a < 2 → i ≢ a
+      → difference zero_fraction (jacobian v i a) ≡ None → Q
   pub growth : is_zero_fraction (volume v) ≡ false → (i a : ℕ) → i < 2 → a < 2
       → fits (inverse_jacobian v a i) ≡ false → Q
 
