@@ -1,0 +1,5 @@
+pub mod MarkLaws
+pub mod WalkLaws
+pub mod LayoutLaws
+pub mod OccurringLaws
+pub mod FitLaws

@@ -1,0 +1,5 @@
+pub mod Occurring
+pub mod Problems
+pub mod Marks
+pub mod Occurrences
+pub mod Layouts
