@@ -9,7 +9,6 @@ pub mod CollectedWeights
 pub mod OriginLaws
 pub mod KeptLaws
 pub mod NumberLaws
-pub mod IntegrandLaws
 mod ProductLists
 mod StepValues
 mod MergedSteps
@@ -17,6 +16,7 @@ mod DerivedLists
 pub mod AtomOrder
 pub mod PlaceSteps
 pub mod RoomLaws
+mod OriginSums
 pub mod NodeSums
 pub mod SafeLaws
 pub mod Sorting

@@ -28,7 +28,7 @@ use Rattle.ufl_meaning.specs.Monomial.{HasNoOffset, monos_value}
 use Rattle.monos.specs.Monomial.{Monomial}
 use Rattle.monos.specs.declared.mono.Atom.{Atom}
 use Rattle.monos.specs.declared.weight.Weight.{Weight}
-use Rattle.weigh.specs.Lists.{HasWeight}
+use Rattle.weigh.specs.Lists.{HasWeight, lists_below}
 use Rattle.weigh.specs.Steps.{join_step}
 use Rattle.weigh.specs.Terms.{term_weight, items_weight, term_directions, items_directions}
 use Rattle.weigh.proofs.ListLaws.{all_append, weighed_more, weighed_append, weighed_sorted}
@@ -41,10 +41,11 @@ use Rattle.normal.specs.Bounding.{cost_of, AreShort, HasDirections, HaveDirectio
 use Rattle.normal.specs.Order.{digits_of, AreInOrder}
 use Rattle.normal.specs.Gathering.{IsCollected, IsGathered, IsSum, IsSumOf, IsSumBelowOf, AddsUp}
 use Rattle.normal.specs.Bounding.{HasNumbers, HaveNumbers}
-use Rattle.normal.specs.Origins.{HasFunction, HaveFunction, HasPlace, AllAtoms}
+use Rattle.normal.specs.Origins.{HasFunction, HaveFunction, HasPlace, AllAtoms, HasOrigin, HaveOrigins}
 use Rattle.normal.specs.Monomials.{atom_along}
 use Rattle.normal.proofs.NumberLaws.{first_wider, second_wider, label_wider, index_wider, wider, append as append_numbers, negatives, all_products, along as along_numbers, bare, unit, function_numbers, collected_numbers}
 use Rattle.normal.proofs.OriginLaws.{negative_all, products_all, along_all, unit_all}
+use Rattle.normal.proofs.OriginSums.{own_origins, joined_origins, collected_origins, negative_origins, product_origins, along_origins}
 use Rattle.normal.proofs.KeptLaws.{collected_atoms}
 use Rattle.normal.proofs.OrderLaws.{monos_permuted}
 use Rattle.normal.proofs.MonomialLaws.{append_value, number_value, function_value, all_negative_value, products_value, along_value}
@@ -83,7 +84,7 @@ every : (P Q : Atom → Type 0) → ((a : Atom) → P a → Q a) → (xs : List 
 every P Q f [] x = tt
 every P Q f (a ∷ more) x = (f a x.0, every P Q f more x.1)
 
-every_atom : (P Q : Atom → Type 0) → ((a : Atom) → P a → Q a) → (ms : List Monomial) → AllAtoms P ms → AllAtoms Q ms
+pub every_atom : (P Q : Atom → Type 0) → ((a : Atom) → P a → Q a) → (ms : List Monomial) → AllAtoms P ms → AllAtoms Q ms
 every_atom P Q f [] x = tt
 every_atom P Q f (m ∷ ms) x = (every P Q f m.atoms x.0, every_atom P Q f ms x.1)
 
@@ -131,6 +132,7 @@ module _ (elements : Table) where
       numbers = nonzero_keeps (λ xs. HasNumbers elements (W (num c)) xs) (number_mono (fraction_of c)) (bare elements _ _, tt);
       leaves = nonzero_keeps (λ xs. AllByRecursion (From (num c)) xs) (number_mono (fraction_of c)) (tt, tt);
       places = nonzero_keeps (λ xs. AllByRecursion (HasPlace elements) xs) (number_mono (fraction_of c)) (tt, tt);
+      origins = nonzero_keeps (HasOrigin (number_mono (fraction_of c))) (number_mono (fraction_of c)) (own_origins (number_mono (fraction_of c)));
       nonzero = no_zero (number_mono (fraction_of c));
       in_order = nonzero_keeps IsInOrder (number_mono (fraction_of c)) (no_atoms, tt);
     };
@@ -168,6 +170,7 @@ module _ (elements : Table) where
           numbers = function_numbers elements f (function_place elements f (index_values v at));
           leaves = leaf (function_place elements f (index_values v at));
           places = place (function_place elements f (index_values v at)) refl;
+          origins = own_origins (function_mono f (function_place elements f (index_values v at)));
           nonzero = alone (function_place elements f (index_values v at));
           in_order = in_order (function_place elements f (index_values v at));
         };
@@ -183,6 +186,7 @@ module _ (elements : Table) where
       numbers = unit elements (index_value v i == index_value v j);
       leaves = unit_all (From (delta i j)) (stays (delta i j)) (index_value v i == index_value v j);
       places = unit_all (HasPlace elements) placed (index_value v i == index_value v j);
+      origins = own_origins (if index_value v i == index_value v j then number_mono one_fraction else []);
       nonzero = alone (index_value v i == index_value v j);
       in_order = in_order (index_value v i == index_value v j);
     };
@@ -207,6 +211,7 @@ module _ (elements : Table) where
       numbers = wider elements _ _ (label_wider (length at) (W b)) ms h.numbers;
       leaves = h.leaves;
       places = h.places;
+      origins = h.origins;
       nonzero = h.nonzero;
       in_order = h.in_order;
     };
@@ -222,6 +227,7 @@ module _ (elements : Table) where
       numbers = negatives elements _ ms h.numbers;
       leaves = negative_all (From a) (stays a) ms h.leaves;
       places = negative_all (HasPlace elements) placed ms h.places;
+      origins = negative_origins (monomials elements a v) ms h.origins;
       nonzero = negative_nonzero ms h.nonzero;
       in_order = negative_order ms h.in_order;
     };
@@ -237,6 +243,7 @@ module _ (elements : Table) where
     numbers : HaveNumbers elements (W e) ms
     leaves : AllAtoms (From e) ms
     places : AllAtoms (HasPlace elements) ms
+    origins : HaveOrigins (monomials elements e v) ms
 
   gathered : (e : Term) (v : Names) (ms rs : List Monomial) → IsGathered ms rs → Holds e v ms → IsSum elements e v rs
   gathered e v ms rs g h =
@@ -250,6 +257,7 @@ module _ (elements : Table) where
         numbers = subst (HaveNumbers elements (W e)) (sym (g.collected).is) (collected_numbers elements (W e) ms ps o h.numbers);
         leaves = subst (AllAtoms (From e)) (sym (g.collected).is) (collected_atoms (From e) ms ps o h.leaves);
         places = subst (AllAtoms (HasPlace elements)) (sym (g.collected).is) (collected_atoms (HasPlace elements) ms ps o h.places);
+        origins = subst (HaveOrigins (monomials elements e v)) (sym (g.collected).is) (collected_origins (monomials elements e v) ms ps o h.origins);
         nonzero = subst HasNoZero (sym (g.collected).is) (no_zero (merged ps));
         in_order = collected_order g.reordered rs g.collected g.in_order;
       }
@@ -262,7 +270,7 @@ module _ (elements : Table) where
   collected_sum e v ms rs g k = record {
     is = λ x. let h = k.is x in
         gathered e v ms rs (record { reordered = ms; inside = same_orders ms; in_order = h.in_order; collected = g })
-        (record { value = h.value; weight = h.weight; directions = h.directions; short = h.short; numbers = h.numbers; leaves = h.leaves; places = h.places });
+        (record { value = h.value; weight = h.weight; directions = h.directions; short = h.short; numbers = h.numbers; leaves = h.leaves; places = h.places; origins = h.origins });
   }
 
   -- ---- derivatives
@@ -277,6 +285,7 @@ module _ (elements : Table) where
           numbers = along_numbers elements (term_directions elements b) (index_value v i) (W b) ms h.numbers;
           leaves = along_all (From b) (stays b) (index_value v i) ms h.leaves;
           places = along_all (HasPlace elements) placed (index_value v i) ms h.places;
+          origins = along_origins (index_value v i) (monomials elements b v) ms h.origins;
         });
   }
 
@@ -321,6 +330,7 @@ module _ (elements : Table) where
       leaves = each_permuted (λ m. AllByRecursion (From (sum a b)) m.atoms) (ms ++ ns) rs o
           (all_append (λ m. AllByRecursion (From (sum a b)) m.atoms) ms ns (every_atom (From a) (From (sum a b)) (λ x k. inl k) ms h.leaves) (every_atom (From b) (From (sum a b)) (λ x k. inr k) ns j.leaves));
       places = each_permuted (λ m. AllByRecursion (HasPlace elements) m.atoms) (ms ++ ns) rs o (all_append (λ m. AllByRecursion (HasPlace elements) m.atoms) ms ns h.places j.places);
+      origins = each_permuted (λ m. HasOrigin (monomials elements a v ++ monomials elements b v) m.atoms) (ms ++ ns) rs o (joined_origins (monomials elements a v) (monomials elements b v) ms ns h.origins j.origins);
       nonzero = each_permuted (λ m. is_zero_fraction m.c ≡ false) (ms ++ ns) rs o (all_append (λ m. is_zero_fraction m.c ≡ false) ms ns h.nonzero j.nonzero);
       in_order = each_permuted (λ m. IsInOrder m.atoms) (ms ++ ns) rs o (all_append (λ m. IsInOrder m.atoms) ms ns h.in_order j.in_order);
     };
@@ -337,6 +347,7 @@ module _ (elements : Table) where
           numbers = all_products elements (W a) (W b) ms ns h.numbers j.numbers;
           leaves = products_all (From (prod a b)) (stays (prod a b)) ms ns (every_atom (From a) (From (prod a b)) (λ x k. inl k) ms h.leaves) (every_atom (From b) (From (prod a b)) (λ x k. inr k) ns j.leaves);
           places = products_all (HasPlace elements) placed ms ns h.places j.places;
+          origins = product_origins (monomials elements a v) (monomials elements b v) ms ns h.origins j.origins;
         });
   }
 
@@ -351,6 +362,7 @@ module _ (elements : Table) where
       numbers = tt;
       leaves = tt;
       places = tt;
+      origins = tt;
       nonzero = tt;
       in_order = tt;
     };
@@ -367,6 +379,7 @@ module _ (elements : Table) where
       numbers = tt;
       leaves = tt;
       places = tt;
+      origins = tt;
       nonzero = tt;
       in_order = tt;
     };
@@ -393,6 +406,9 @@ module _ (elements : Table) where
       numbers = each_permuted (λ m. HasNumbers elements (W e) m.atoms) (ms ++ ns) rs o (append_numbers elements _ ms ns h.numbers j.numbers);
       leaves = each_permuted (λ m. AllByRecursion (From e) m.atoms) (ms ++ ns) rs o (all_append (λ m. AllByRecursion (From e) m.atoms) ms ns h.leaves j.leaves);
       places = each_permuted (λ m. AllByRecursion (HasPlace elements) m.atoms) (ms ++ ns) rs o (all_append (λ m. AllByRecursion (HasPlace elements) m.atoms) ms ns h.places j.places);
+      origins = each_permuted (λ m. HasOrigin (lists_below (n + 1) (λ k. monomials elements e (with_name i k v))) m.atoms) (ms ++ ns) rs o
+          (subst (λ m. HaveOrigins (lists_below m (λ k. monomials elements e (with_name i k v))) (ms ++ ns)) (next_number n)
+          (joined_origins (lists_below n (λ k. monomials elements e (with_name i k v))) (monomials elements e (with_name i n v)) ms ns h.origins j.origins));
       nonzero = each_permuted (λ m. is_zero_fraction m.c ≡ false) (ms ++ ns) rs o (all_append (λ m. is_zero_fraction m.c ≡ false) ms ns h.nonzero j.nonzero);
       in_order = each_permuted (λ m. IsInOrder m.atoms) (ms ++ ns) rs o (all_append (λ m. IsInOrder m.atoms) ms ns h.in_order j.in_order);
     };
@@ -414,6 +430,7 @@ module _ (elements : Table) where
       numbers = wider elements _ _ (index_wider n (W e)) ms h.numbers;
       leaves = h.leaves;
       places = h.places;
+      origins = h.origins;
       nonzero = h.nonzero;
       in_order = h.in_order;
     };
@@ -441,6 +458,7 @@ module _ (elements : Table) where
     numbers : HaveNumbers elements (items_weight elements ts) ms
     leaves : AllAtoms (λ a. HaveFunction a.f ts) ms
     places : AllAtoms (HasPlace elements) ms
+    origins : HaveOrigins (item_monomials elements ts v k) ms
     nonzero : HasNoZero ms
     in_order : AreInOrder ms
 
@@ -460,6 +478,7 @@ module _ (elements : Table) where
     numbers = h.numbers;
     leaves = every_atom (From x) (λ a. HaveFunction a.f (term x no_terms)) (λ y k. inl k) ms h.leaves;
     places = h.places;
+    origins = h.origins;
     nonzero = h.nonzero;
     in_order = h.in_order;
   }
@@ -477,6 +496,7 @@ module _ (elements : Table) where
     numbers = wider elements _ _ (first_wider max (W x) (items_weight elements (term y ts))) ms h.numbers;
     leaves = every_atom (From x) (λ a. HaveFunction a.f (term x (term y ts))) (λ z k. inl k) ms h.leaves;
     places = h.places;
+    origins = h.origins;
     nonzero = h.nonzero;
     in_order = h.in_order;
   }
@@ -497,6 +517,7 @@ module _ (elements : Table) where
     numbers = wider elements _ _ (second_wider max (W x) (items_weight elements (term y ts))) ms h.numbers;
     leaves = every_atom (λ a. HaveFunction a.f (term y ts)) (λ a. HaveFunction a.f (term x (term y ts))) (λ z k. inr k) ms h.leaves;
     places = h.places;
+    origins = h.origins;
     nonzero = h.nonzero;
     in_order = h.in_order;
   }
@@ -532,6 +553,7 @@ module _ (elements : Table) where
       numbers = h.numbers;
       leaves = h.leaves;
       places = h.places;
+      origins = subst (λ j. HaveOrigins (item_monomials elements (terms_of (map term_of ts)) v j) ms) (sym e) h.origins;
       nonzero = h.nonzero;
       in_order = h.in_order;
     };
@@ -552,6 +574,7 @@ module _ (elements : Table) where
       numbers = tt;
       leaves = tt;
       places = tt;
+      origins = tt;
       nonzero = tt;
       in_order = tt;
     };

@@ -14,11 +14,11 @@ use Rattle.ufl_meaning.specs.Monomial.{HasNoOffset, monos_value}
 use Rattle.monos.specs.Monomial.{Monomial, derivatives}
 use Rattle.monos.specs.declared.weight.Weight.{Weight}
 use Rattle.weigh.specs.Bounds.{Bounds, IsSound}
-use Rattle.weigh.specs.Lists.{IsWeighed, HasWeight}
+use Rattle.weigh.specs.Lists.{IsWeighed, HasWeight, lists_below}
 use Rattle.weigh.specs.Terms.{term_weight, term_directions}
-use Rattle.normal.specs.Monomials.{IsExpanded, products}
+use Rattle.normal.specs.Monomials.{IsExpanded, products, monomials}
 use Rattle.normal.specs.Collecting.{AreReordered, merged, nonzero, IsRising, IsStrict, HasNoZero}
-use Rattle.normal.specs.Origins.{HasFunction, HasPlace, AllAtoms}
+use Rattle.normal.specs.Origins.{HasFunction, HasPlace, AllAtoms, HaveOrigins}
 use Rattle.normal.specs.Bounding.{HaveNumbers, cost_of, AreShort, HasDirections}
 use Rattle.normal.specs.Order.{comes_before, AreInOrder}
 use Rattle.normal.specs.declared.names.Bound.{Bound}
@@ -98,6 +98,7 @@ pub record IsSum (elements : Table) (e : Term) (v : Names) (ms : List Monomial) 
   pub numbers : HaveNumbers elements (term_weight elements e) ms
   pub leaves : AllAtoms (λ a. HasFunction a.f e) ms
   pub places : AllAtoms (HasPlace elements) ms
+  pub origins : HaveOrigins (monomials elements e v) ms
   pub nonzero : HasNoZero ms
   pub in_order : AreInOrder ms
 
@@ -124,6 +125,7 @@ pub record IsSumBelow (elements : Table) (e : Term) (i : ℕ) (v : Names) (n : �
   pub numbers : HaveNumbers elements (term_weight elements e) ms
   pub leaves : AllAtoms (λ a. HasFunction a.f e) ms
   pub places : AllAtoms (HasPlace elements) ms
+  pub origins : HaveOrigins (lists_below n (λ k. monomials elements e (with_name i k v))) ms
   pub nonzero : HasNoZero ms
   pub in_order : AreInOrder ms
 

@@ -2,6 +2,5 @@ pub mod Monomials
 pub mod Collecting
 pub mod Bounding
 pub mod Origins
-pub mod Integrands
 pub mod Order
 pub mod Gathering

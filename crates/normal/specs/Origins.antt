@@ -1,11 +1,12 @@
 -- Where the atoms of the monomials of a tree come from
-use Rattle.std.specs.Prelude.{◌≡◌, ℕ, ◌⊎◌, List, Some}
+use Rattle.std.specs.Prelude.{◌≡◌, ℕ, ◌⊎◌, List, [], ◌∷◌, Some}
 use Rattle.std.specs.List.{AllByRecursion}
 use Rattle.ufl_tree.specs.declared.function.Function.{Function}
 use Rattle.ufl_tree.specs.Places.{Table, function_place}
 use Rattle.ufl_tree.specs.Term.{Term, num, fun, mark, neg, sum, prod, over, dx, delta, pick, raise, turn, Terms, no_terms, term}
 use Rattle.monos.specs.Monomial.{Monomial}
 use Rattle.monos.specs.declared.mono.Atom.{Atom}
+use Rattle.normal.specs.Bounding.{function_sum}
 
 -- f is the function of a leaf of a tree
 abbrev mutual
@@ -35,3 +36,16 @@ pub record HasPlace (elements : Table) (a : Atom) : Type 0 where
 -- each atom of each monomial
 abbrev pub AllAtoms : (Atom → Type 0) → List Monomial → Type 0
 AllAtoms P ms = AllByRecursion (λ m. AllByRecursion P m.atoms) ms
+
+-- each function stands in the one product as often as in the other
+pub record HaveSameFunctions (xs ys : List Atom) : Type 0 where
+  pub each : (n : Function → ℕ) → function_sum n xs ≡ function_sum n ys
+
+-- a product has the functions of one of these monomials
+abbrev pub HasOrigin : List Monomial → List Atom → Type 0
+HasOrigin [] xs = ⊥
+HasOrigin (k ∷ ks) xs = HaveSameFunctions xs k.atoms ⊎ HasOrigin ks xs
+
+-- and so does each monomial
+abbrev pub HaveOrigins : List Monomial → List Monomial → Type 0
+HaveOrigins ks ms = AllByRecursion (λ m. HasOrigin ks m.atoms) ms

@@ -1,20 +1,18 @@
 //! What is proved of sums of monomials. Each law is the contract of a function that does nothing, for provers to call or cite.
 
-ghost use Rattle.std.specs.Prelude.{◌≡◌, ◌≤◌, ℕ, Bool, List, []};
+ghost use Rattle.std.specs.Prelude.{◌≡◌, ◌≤◌, ℕ, Bool, List};
 ghost use Rattle.std.specs.Cmp.{IsTotalOrder};
 ghost use Rattle.std.specs.Ordering.{is_lt};
 ghost use Rattle.std.specs.declared.cmp.Ordering.{Ordering};
 ghost use Rattle.std.specs.declared.cmp.Ordering.TheVariants.{Equal};
 ghost use Rattle.normal.specs.Origins.{HasFunction, HasPlace, AllAtoms};
-ghost use Rattle.monos.specs.Prelude.{Typed, Names, Table, Term, Monomial};
+ghost use Rattle.monos.specs.Prelude.{Names, Table, Term, Monomial};
 ghost use Rattle.monos.specs.declared.weight.Weight.{Weight};
 ghost use Rattle.monos.specs.declared.mono.Atom.{Atom};
-ghost use Rattle.ufl_meaning.specs.Prelude.{no_names, Environment, HasOnlyUsed, value as value_of, meaning, HasNoOffset, monos_value};
-ghost use Rattle.weigh.specs.Prelude.{IsLawfulTable, exact, weight_with, Bounds, IsSound, term_weight, HasWeight};
+ghost use Rattle.ufl_meaning.specs.Prelude.{Environment, meaning, HasNoOffset, monos_value};
+ghost use Rattle.weigh.specs.Prelude.{Bounds, IsSound, term_weight, HasWeight};
 ghost use Rattle.weigh.specs.Admitted.{IsAdmitted};
 ghost use Rattle.normal.specs.Gathering.{IsSafe};
-ghost use Rattle.lower.specs.Fitting.{IsFitting};
-ghost use Rattle.normal.specs.Integrands.{integrand_term, integrand_monomials};
 ghost use Rattle.normal.specs.Monomials.{IsExpanded, monomials};
 ghost use Rattle.normal.specs.Collecting.{merged, nonzero, IsSortedOut, IsOrder, IsRising, IsStrict, HasNoZero};
 ghost use Rattle.normal.specs.Bounding.{cost_of, AreShort, HaveNumbers, HasDirections};
@@ -66,22 +64,6 @@ pub fn weight_law()
         → HaveNumbers elements w (monomials elements e v) }
     ensures collected_numbers { (elements : Table) (w : Weight) (ms ps : List Monomial) → IsSortedOut ms ps
         → HaveNumbers elements w ms → HaveNumbers elements w (nonzero (merged ps)) }
-{}
-
-/// An integrand that is lowered, whose derivatives are carried out and that is multiplied out: its monomials add up
-/// to its value
-/// in every environment without offsets and without parameters that aren't in use, and what bounds its weight bounds
-/// them.
-pub fn integrand_law()
-    ensures value { (elements : Table) → IsLawfulTable elements → (e : Typed) → IsFitting elements e →
-        (env : Environment)
-        → HasOnlyUsed env → HasNoOffset env
-        → monos_value env (integrand_monomials elements e) ≡ value_of elements e env [] no_names }
-    ensures weight { (elements : Table) (d : ℕ) → 1 ≤ d → (w : Weight) → IsSound w → (e : Typed) → IsFitting elements e
-        → Bounds w (weight_with exact elements e) → HasDirections elements d (integrand_term elements e)
-        → HasWeight (cost_of elements) d w (integrand_monomials elements e) }
-    ensures numbers { (elements : Table) (w : Weight) (e : Typed) → IsFitting elements e
-        → Bounds w (weight_with exact elements e) → HaveNumbers elements w (integrand_monomials elements e) }
 {}
 
 /// Where an admitted weight bounds an expanded tree, no step on the coefficients of its monomials passes.

@@ -8,6 +8,7 @@ ghost use Rattle.normal.specs.Gathering.{names_of};
 
 use crate::names::{Bound, index_value};
 use spaces::{Element, ElementTree};
+use ufl_expr::Elements;
 use ufl_tree::{Function, Ix};
 
 fn below(k: u8, size: u8) -> Option<u8>
@@ -57,10 +58,10 @@ fn in_element(bounds: &[Bound], at: &[Ix], element: &Element) -> Option<u8>
 }
 
 /// The place of a component of a function, or `None` exactly where there is no such element or component.
-pub fn function_place(elements: &[Element], f: Function, bounds: &[Bound], at: &[Ix]) -> Option<u8>
+pub fn function_place(elements: &Elements, f: Function, bounds: &[Bound], at: &[Ix]) -> Option<u8>
     ensures { result ≡ place_of_function (table_of elements.now) f (index_values (names_of bounds.now) at.now) }
 {
-    match elements.get(f.element as usize) {
+    match elements.get(f.element) {
         Some(element) => in_element(bounds, at, element),
         None => None,
     }

@@ -6,6 +6,7 @@ use ratio::Ratio;
 use spaces::{Cell, Element, Family};
 use sqlite_items::{Boxed, Items};
 use std::alloc::{AllocError, Global};
+use ufl_expr::Elements;
 use ufl_tree::{Function, Ix, Plain, Role};
 
 /// A step of making a tree: a leaf, or a node on the last one or two trees.
@@ -92,10 +93,10 @@ fn made(alloc: Global, steps: &[Step]) -> Result<Plain, AllocError> {
     Ok(last(&mut trees))
 }
 
-fn elements(alloc: Global) -> Result<Vec<Element>, AllocError> {
-    let mut all = Vec::new(alloc);
+fn elements(alloc: Global) -> Result<Elements, AllocError> {
+    let mut all = Elements::new(alloc);
     if let Some(element) = Element::scalar(Family::Lagrange, Cell::Triangle, 2) {
-        all.push(element)?;
+        all.add(element)?;
     }
     Ok(all)
 }

@@ -19,14 +19,14 @@ use crate::places::function_place;
 use crate::refusal::NormalRefusal;
 use monos::{Atom, Mono};
 use ratio::Ratio;
-use spaces::Element;
 use std::alloc::{AllocError, Global};
+use ufl_expr::Elements;
 use ufl_tree::{Function, Ix, Plain};
 
 /// One monomial for a component of a function, none where it has no such component.
 fn function(
     alloc: Global,
-    elements: &[Element],
+    elements: &Elements,
     f: Function,
     bounds: &[Bound],
     at: &[Ix],
@@ -61,7 +61,7 @@ fn unit(alloc: Global, i: u8, j: u8) -> Result<Vec<Mono>, AllocError>
 #[cycle(walk)]
 pub fn sum(
     alloc: Global,
-    elements: &[Element],
+    elements: &Elements,
     bounds: &[Bound],
     e: &Plain,
 ) -> Result<Vec<Mono>, NormalRefusal>
@@ -106,7 +106,7 @@ pub fn sum(
 #[cycle(walk)]
 fn opposite(
     alloc: Global,
-    elements: &[Element],
+    elements: &Elements,
     bounds: &[Bound],
     a: &Plain,
 ) -> Result<Vec<Mono>, NormalRefusal>
@@ -122,7 +122,7 @@ fn opposite(
 #[cycle(walk)]
 fn derivative(
     alloc: Global,
-    elements: &[Element],
+    elements: &Elements,
     bounds: &[Bound],
     at: Ix,
     body: &Plain,
@@ -139,7 +139,7 @@ fn derivative(
 #[cycle(walk)]
 fn at_value(
     alloc: Global,
-    elements: &[Element],
+    elements: &Elements,
     bounds: &[Bound],
     index: u16,
     value: u8,
@@ -157,7 +157,7 @@ fn at_value(
 #[cycle(walk)]
 fn over(
     alloc: Global,
-    elements: &[Element],
+    elements: &Elements,
     bounds: &[Bound],
     index: u16,
     dim: u8,
@@ -180,7 +180,7 @@ fn over(
 #[cycle(walk)]
 fn item(
     alloc: Global,
-    elements: &[Element],
+    elements: &Elements,
     bounds: &[Bound],
     items: &[Plain],
     which: u8,
