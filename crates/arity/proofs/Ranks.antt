@@ -26,7 +26,7 @@ numbers a b h =
     let z = flags a.more b.more q.1 in
     λ i. record { zero = x i; one = y i; more = z i }
 
-pairs : (a b : PatternSet) → same_pairs a b ≡ true → a ≡ b
+pub pairs : (a b : PatternSet) → same_pairs a b ≡ true → a ≡ b
 pairs a b h =
     let p = both_true (same_numbers a.zero b.zero) _ h in
     let q = both_true (same_numbers a.one b.one) _ p.1 in
