@@ -141,12 +141,12 @@ plain_coefficient Trial h = cc
 plain_coefficient Position h = cc
 plain_coefficient (Coefficient n) h = (refl, refl)
 
-record IsFurther (r : Verdict) (f : FormKind → Verdict) (k : FormKind) : Type 0 where
-  kind : FormKind
-  first : r ≡ Ok kind
-  rest : f kind ≡ Ok k
+pub record IsFurther (r : Verdict) (f : FormKind → Verdict) (k : FormKind) : Type 0 where
+  pub kind : FormKind
+  pub first : r ≡ Ok kind
+  pub rest : f kind ≡ Ok k
 
-is_further : (r : Verdict) (f : FormKind → Verdict) (k : FormKind) → further r f ≡ Ok k → IsFurther r f k
+pub is_further : (r : Verdict) (f : FormKind → Verdict) (k : FormKind) → further r f ≡ Ok k → IsFurther r f k
 is_further (Err r) f k h = cc
 is_further (Ok a) f k h = record { kind = a; first = refl; rest = h }
 

@@ -5,4 +5,6 @@ pub mod Forms
 pub mod Counts
 pub mod Ranks
 pub mod Multilinear
+pub mod Leaves
 pub mod Directions
+pub mod Places

@@ -1,8 +1,8 @@
 -- An admitted form is linear in its arguments
-use Rattle.std.proofs.Common.{◌≡◌, ◌≤◌, ℕ, ◌⊎◌, inl, inr, Bool, true, false, if◌then◌else◌, List, [], ◌∷◌, ◌++◌, Option, None, Some, Ok, refl, ap₂, ◌∙◌}
+use Rattle.std.proofs.Common.{◌≡◌, ◌≤◌, ℕ, suc, ◌⊎◌, inl, inr, Bool, true, false, if◌then◌else◌, List, [], ◌∷◌, ◌++◌, Option, None, Some, Ok, refl, ap₂, ◌∙◌}
 use Rattle.std.specs.List.{AllByRecursion}
 use Rattle.calculus.specs.Polynomial.{nil, plus}
-use Rattle.ufl_tree.specs.declared.function.Role.TheVariants.{Test, Trial}
+use Rattle.ufl_tree.specs.declared.function.Role.TheVariants.{Test, Trial, Position, Coefficient}
 use Rattle.ufl_tree.specs.Places.{Table, IsLawfulTable}
 use Rattle.ufl_tree.specs.Term.{Term, num, fun, mark, neg, sum, prod, over, dx, delta, pick, raise, turn, Terms, no_terms, term}
 use Rattle.ufl_meaning.specs.Density.{covers}
@@ -20,8 +20,7 @@ use Rattle.perturb.specs.Expanding.{IsReady, AreReady}
 use Rattle.normal.specs.Monomials.{monomials, IsExpanded, AreExpanded}
 use Rattle.normal.proofs.MeaningLaws.{means}
 use Rattle.normal.proofs.MonomialLaws.{append_value}
-use Rattle.typing.specs.Parts.{HaveByteParts}
-use Rattle.typing.proofs.FittingLaws.{parts_fitting}
+use Rattle.typing.specs.Parts.{ArePartsFitting}
 use Rattle.integrands.specs.Flattening.{flattened}
 use Rattle.integrands.specs.Integrands.{IntegrandTerm, integrands_value}
 use Rattle.integrands.specs.Keeping.{AreExpanded as AreCarriedOut}
@@ -31,6 +30,19 @@ use Rattle.form_values.specs.Linear.{HaveCount, HaveOneWhere, IsMultilinear, ato
 use Rattle.form_values.specs.Problem.{Problem}
 use Rattle.form_values.proofs.LinearForms.{multilinear}
 use Rattle.arity.specs.Ranks.{HasItsRank}
+use Rattle.ufl_tree.specs.declared.function.Function.{Function}
+use Rattle.ufl_tree.specs.declared.function.Role.{Role}
+use Rattle.ufl_tree.specs.FormTerm.{FormTerm}
+use Rattle.ufl_meaning.specs.Environment.{same_role}
+use Rattle.monos.specs.declared.mono.Atom.{Atom}
+use Rattle.ufl_form.specs.Numbered.{FormIsNumbered}
+use Rattle.normal.specs.Origins.{HasFunction, AllAtoms}
+use Rattle.normal.proofs.OriginLaws.{from_leaves}
+use Rattle.form_layouts.specs.Occurring.{occurs}
+use Rattle.arity.specs.Leaves.{EachLeaf}
+use Rattle.arity.specs.Places.{IsPlaceFor, HasItsPlace}
+use Rattle.arity.proofs.Leaves.{all_kept, leaf_has}
+use Rattle.arity.proofs.Places.{all_placed}
 use Rattle.arity.proofs.Terms.{HasTerm, IsWithin}
 use Rattle.arity.proofs.Forms.{AllWithin, flattened_within}
 use Rattle.arity.proofs.Counts.{paired}
@@ -38,7 +50,7 @@ use Rattle.arity.proofs.Ranks.{IsPair, has_its_pair}
 
 -- ---- trees without derivatives by variables and by functions
 mutual
-  ready_expanded : (n : ℕ) (t : Term) → IsReady n t → IsExpanded t
+  pub ready_expanded : (n : ℕ) (t : Term) → IsReady n t → IsExpanded t
   ready_expanded n (num c) h = tt
   ready_expanded n (fun f at) h = tt
   ready_expanded n (mark l at b) h = ready_expanded n b h
@@ -115,17 +127,60 @@ trials_where P None r ms h = tt
 trials_where P (Some e) (inl n) ms h = cc
 trials_where P (Some e) (inr r) ms h = have_trials P r ms h
 
-not_true : (b : Bool) → b ≡ true → b ≡ false → ⊥
-not_true true h k = cc
-not_true false h k = cc
+-- ---- the position
+no_position : (ms : List Monomial) → AllAtoms (λ a. same_role a.f.role Position ≡ false) ms → HaveCount Position 0 ms
+no_position [] h = tt
+no_position (m ∷ ms) h = (none m.atoms h.0, no_position ms h.1)
+  where
+    none_first : (b : Bool) (n : ℕ) → b ≡ false → n ≡ 0 → (if b then suc n else n) ≡ 0
+    none_first true n h k = cc
+    none_first false n h k = k
 
-pub admitted_multilinear : (p : Problem) (o : Occurring) (k : FormKind) → o.position ≡ true → IsLawfulTable p.elements → AreTyped p.form → FormFits p.elements p.form
-    → HaveByteParts p.form → form_kind p.form ≡ Ok k → has_arity (form_patterns p.form) ≡ true → HasItsRank p → IsMultilinear p o
-admitted_multilinear p o k there lawful t f l kind a r =
+    none : (atoms : List Atom) → AllByRecursion (λ a. same_role a.f.role Position ≡ false) atoms → atom_count Position atoms ≡ 0
+    none [] h = refl
+    none (a ∷ atoms) h = none_first (same_role a.f.role Position) (atom_count Position atoms) h.0 (none atoms h.1)
+
+atoms_have : (P : Function → Type 0) (t : Term) → EachLeaf P t → (atoms : List Atom) → AllByRecursion (λ a. HasFunction a.f t) atoms → AllByRecursion (λ a. P a.f) atoms
+atoms_have P t h [] x = tt
+atoms_have P t h (a ∷ atoms) x = (leaf_has P a.f t h x.0, atoms_have P t h atoms x.1)
+
+all_atoms_have : (P : Function → Type 0) (t : Term) → EachLeaf P t → (ms : List Monomial) → AllAtoms (λ a. HasFunction a.f t) ms → AllAtoms (λ a. P a.f) ms
+all_atoms_have P t h [] x = tt
+all_atoms_have P t h (m ∷ ms) x = (atoms_have P t h m.atoms x.0, all_atoms_have P t h ms x.1)
+
+atoms_on : (P : Function → Type 0) (b : Bool) (ms : List Monomial) → AllAtoms (λ a. P a.f) ms → AllAtoms (λ a. P a.f) (on_cells b ms)
+atoms_on P true ms h = h
+atoms_on P false ms h = tt
+
+atoms_placed : (elements : Table) (P : Function → Type 0) (ps : List IntegrandTerm) → AllByRecursion (λ (p : IntegrandTerm). EachLeaf P p.body) ps → (m : ℕ)
+    → AllAtoms (λ a. P a.f) (monomials_on elements ps m)
+atoms_placed elements P [] h m = tt
+atoms_placed elements P (p ∷ ps) h m =
+    all_append _ (on_cells (covers p.on m) (monomials elements p.body no_names)) (monomials_on elements ps m)
+    (atoms_on P (covers p.on m) (monomials elements p.body no_names) (all_atoms_have P p.body h.0 (monomials elements p.body no_names) (from_leaves elements p.body no_names)))
+    (atoms_placed elements P ps h.1 m)
+
+occurs_not : (elements : Table) (numbers : List ℕ) (f : FormTerm) (k : FormKind) → occurs Position f ≡ false → (r : Role) (e : ℕ) → IsPlaceFor elements numbers f k r e
+    → same_role r Position ≡ false
+occurs_not elements numbers f k none Test e h = refl
+occurs_not elements numbers f k none Trial e h = refl
+occurs_not elements numbers f k none (Coefficient n) e h = refl
+occurs_not elements numbers f k none Position e h = cc
+
+pub admitted_multilinear : (p : Problem) (o : Occurring) (k : FormKind) → (o.position ≡ false → occurs Position p.form ≡ false) → IsLawfulTable p.elements → AreTyped p.form
+    → FormFits p.elements p.form → FormIsNumbered p.coefficients p.form → ArePartsFitting p.elements p.form → form_kind p.form ≡ Ok k → has_arity (form_patterns p.form) ≡ true → HasItsRank p → IsMultilinear p o
+admitted_multilinear p o k there lawful t f n l kind a r =
     let ps = flattened p.elements p.form in
     let P = form_patterns p.form in
     let within = flattened_within p.elements p.form k t kind in
     multilinear p o (monomials_on p.elements ps)
-    (λ env used plain. add_up p.elements ps (are_expanded p.elements p.form) env plain ∙ have_density p.elements lawful p.form (parts_fitting p.elements lawful p.form t f l) env used)
+    (λ env used plain. add_up p.elements ps (are_expanded p.elements p.form) env plain ∙ have_density p.elements lawful p.form l env used)
     (λ m. let all = all_pairs p.elements P a ps within m in
-    record { test = tests_where P p.test r.test (monomials_on p.elements ps m) all; trial = trials_where P p.trial r.trial (monomials_on p.elements ps m) all; position = λ none. absurd (not_true o.position there none) })
+    record {
+      test = tests_where P p.test r.test (monomials_on p.elements ps m) all;
+      trial = trials_where P p.trial r.trial (monomials_on p.elements ps m) all;
+      position = λ none. no_position (monomials_on p.elements ps m)
+          (atoms_placed p.elements (λ x. same_role x.role Position ≡ false) ps
+          (all_kept (HasItsPlace p.elements p.coefficients p.form k) (λ x. same_role x.role Position ≡ false)
+          (λ x. occurs_not p.elements p.coefficients p.form k (there none) x.role x.element) ps (all_placed p.elements p.coefficients p.form k t f n kind)) m);
+    })

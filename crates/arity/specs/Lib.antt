@@ -1,2 +1,4 @@
 pub mod Bodies
 pub mod Ranks
+pub mod Leaves
+pub mod Places
