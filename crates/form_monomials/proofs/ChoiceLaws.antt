@@ -20,7 +20,7 @@ use Rattle.integrands.specs.Keeping.{AreExpanded, chosen, total_weight, BoundsTo
 use Rattle.arity.specs.Bodies.{HaveFormDirections}
 use Rattle.form_monomials.specs.Markers.{is_part, bodies_in, RunsOn}
 use Rattle.form_monomials.specs.Sums.{IsSumOf}
-use Rattle.form_monomials.proofs.Expanded.{ready_expanded}
+use Rattle.arity.proofs.Multilinear.{ready_expanded}
 use Rattle.form_monomials.proofs.SumLaws.{sum_has, meanings, weight_of, weight_sound, IsBelow, sum_below}
 
 module _ (marker : Option ℕ) where

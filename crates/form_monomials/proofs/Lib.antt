@@ -1,4 +1,3 @@
-pub mod Expanded
 pub mod SumLaws
 pub mod ChoiceLaws
 pub mod FormLaws
