@@ -1,0 +1,10 @@
+pub mod StoredLaws
+pub mod VanishingLaws
+pub mod OutsideLaws
+pub mod ExhaustedLaws
+pub mod ColumnLaws
+pub mod RowLaws
+pub mod EntryLaws
+pub mod BoundLaws
+pub mod SpreadLaws
+pub mod ResultLaws
