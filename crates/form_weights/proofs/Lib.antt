@@ -1,2 +1,2 @@
-mod WeightLaws
-mod PlaceLaws
+pub mod WeightLaws
+pub mod PlaceLaws

@@ -1,0 +1,4 @@
+mod ElementLaws
+mod RunLaws
+mod PartLaws
+mod FunLaws
