@@ -1,0 +1,3 @@
+pub mod CellRuns
+pub mod Preparing
+pub mod Admitting
