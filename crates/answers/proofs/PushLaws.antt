@@ -9,7 +9,7 @@ use Rattle.assembly.specs.LentRows.{LentRows, lent_count, lent_entries}
 use Rattle.assembly.specs.declared.run_refusal.RunRefusal.{RunRefusal}
 use Rattle.assembly.specs.declared.run_refusal.RunRefusal.TheVariants as refusal
 use Rattle.assembly.proofs.WholeLaws.{AreSumsBelow, no_sums, sums_more, sums_all, passes_whole}
-use Rattle.answers.specs.MatrixText.{entry_line, header_line, GainsMatrix, SumRefusal}
+use Rattle.answers.specs.ValuesText.{entry_line, header_line, GainsValues, SumRefusal}
 
 -- the lines of the rows before the next stand behind the front
 pub record ArePushed (start rows : LentRows) (front text : List ℕ) : Type 0 where
@@ -44,12 +44,12 @@ pushed_more start rows new row front text more es p is e f =
           ∙ ap (λ t. front ++ t) (sym (flat_map-append entry_line p.sums es));
     })
 
-pub pushed_all : (name : List ℕ) (cols : ℕ) (start rows : LentRows) (old text : List ℕ) → ArePushed start rows (old ++ header_line name (lent_count start) cols) text → rows.next ≡ lent_count rows
-    → GainsMatrix name start cols old text
-pushed_all name cols start rows old text p e = (
+pub pushed_all : (name : List ℕ) (rank cols : ℕ) (start rows : LentRows) (old text : List ℕ) → ArePushed start rows (old ++ header_line name rank (lent_count start) cols) text → rows.next ≡ lent_count rows
+    → GainsValues name rank start cols old text
+pushed_all name rank cols start rows old text p e = (
   p.sums,
   subst (λ vs. AreSums vs p.sums) p.entries (sums_all (lent_entries rows) rows.next p.sums p.below (λ row col h. p.within row col (omega (arith, e, h)))),
-  p.lines ∙ append_assoc old (header_line name (lent_count start) cols) (flat_map entry_line p.sums),
+  p.lines ∙ append_assoc old (header_line name rank (lent_count start) cols) (flat_map entry_line p.sums),
 )
 
 pub pushed_refused : (start rows : LentRows) (front text : List ℕ) (e : RunRefusal) → ArePushed start rows front text → IsRowRefusal rows e → SumRefusal (lent_entries start) e

@@ -1,3 +1,3 @@
 pub mod Lines
-pub mod MatrixText
+pub mod ValuesText
 pub mod Outcome

@@ -1,6 +1,6 @@
 -- The line on err for each outcome
 use Rattle.std.specs.Prelude.{◌≡◌, ℕ, zero, suc, List, [], ◌∷◌, ◌++◌, Option, codes, decimal, ◌⊎◌}
-use Rattle.answers.specs.MatrixText.{joined}
+use Rattle.answers.specs.ValuesText.{joined}
 use Rattle.ends.specs.Count.{Rises}
 use Rattle.ends.specs.Told.{appended, TakesPrefix}
 use Rattle.mesh_in.specs.declared.refusal.MeshKind.{MeshKind}

@@ -1,8 +1,8 @@
 use Rattle.std.proofs.Common.{◌≡◌, ◌++◌, map, drop}
 use Rattle.std.specs.List.{flat_map}
 use Rattle.assembly.specs.Kept.{seen}
-use Rattle.answers.specs.MatrixText.{entry_line}
-use Rattle.answers.proofs.matrix_text.push_entries.Given as goal
+use Rattle.answers.specs.ValuesText.{entry_line}
+use Rattle.answers.proofs.values_text.push_entries.Given as goal
 
 -- the lines so far and those that are left are all
 abbrev pub invariant-loop-triple : goal.invariant-loop-triple

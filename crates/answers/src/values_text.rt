@@ -1,10 +1,10 @@
-//! The text of a matrix.
+//! The text of the values of a form.
 ghost use Rattle.std.specs.Prelude.{◌≡◌, ◌++◌, map, decimal, IfErr, OnOk};
 ghost use Rattle.std.specs.List.{flat_map};
 ghost use Rattle.assembly.specs.Kept.{seen};
 ghost use Rattle.assembly.specs.Lent.{HasNoneBeyond};
 ghost use Rattle.assembly.specs.LentRows.{lent_entries};
-ghost use Rattle.answers.specs.MatrixText.{entry_line, header_line, GainsMatrix, SumRefusal};
+ghost use Rattle.answers.specs.ValuesText.{entry_line, header_line, GainsValues, SumRefusal};
 
 use assembly::{Rows, RunRefusal, Triple};
 use itoa::Buffer;
@@ -36,13 +36,20 @@ fn push_count(text: &mut Vec<u8>, words: &[u8], count: u32) -> Result<(), AllocE
     push_number(text, count)
 }
 
-// `form NAME rank 2 rows M columns N`
-fn push_header(text: &mut Vec<u8>, name: &[u8], rows: u32, cols: u32) -> Result<(), AllocError>
-    ensures { OnOk result (text.new.items ≡ text.old.items ++ header_line name.now rows cols) }
+// `form NAME rank R rows M columns N`
+fn push_header(
+    text: &mut Vec<u8>,
+    name: &[u8],
+    rank: u8,
+    rows: u32,
+    cols: u32,
+) -> Result<(), AllocError>
+    ensures { OnOk result (text.new.items ≡ text.old.items ++ header_line name.now rank rows cols) }
 {
     text.extend_from_slice(b"form ")?;
     text.extend_from_slice(name)?;
-    push_count(text, b" rank 2 rows ", rows)?;
+    push_count(text, b" rank ", rank as u32)?;
+    push_count(text, b" rows ", rows)?;
     push_count(text, b" columns ", cols)?;
     text.extend_from_slice(b"\n")?;
     Ok(())
@@ -58,22 +65,23 @@ fn push_entries(text: &mut Vec<u8>, triples: &[Triple]) -> Result<(), AllocError
     Ok(())
 }
 
-/// Appends the text of the matrix whose rows are lent: the header, with as many columns as are given, and a line for
-/// each entry. Each row is written as it is lent.
+/// Appends the text of the values of a form whose rows are lent: the header, with the rank and as many columns as are
+/// given, and a line for each entry. Each row is written as it is lent.
 ///
 /// At a refusal only a part of the text was appended.
-pub fn push_matrix(
+pub fn push_values(
     text: &mut Vec<u8>,
     name: &[u8],
+    rank: u8,
     cols: u32,
     rows: &mut Rows<'_>,
 ) -> Result<(), RunRefusal>
     requires first { rows.old.next ≡ 0 }
     requires within { HasNoneBeyond rows.old }
-    ensures text { OnOk result (GainsMatrix name.now rows.old cols text.old.items text.new.items) }
+    ensures text { OnOk result (GainsValues name.now rank rows.old cols text.old.items text.new.items) }
     ensures refusal { IfErr result (SumRefusal (lent_entries rows.old)) }
 {
-    push_header(text, name, rows.count(), cols)?;
+    push_header(text, name, rank, rows.count(), cols)?;
     while let Some(row) = rows.next_row() {
         row?;
         push_entries(text, rows.entries())?;

@@ -4,9 +4,9 @@ use Rattle.std.proofs.lemmas.Result.{err_from_is_err_and}
 use Rattle.assembly.specs.Kept.{seen}
 use Rattle.assembly.specs.Lent.{IsNextRow}
 use Rattle.assembly.specs.declared.triple.Triple.{Triple}
-use Rattle.answers.specs.MatrixText.{entry_line}
+use Rattle.answers.specs.ValuesText.{entry_line}
 use Rattle.answers.proofs.PushLaws.{pushed_more, pushed_all, pushed_refused}
-use Rattle.answers.proofs.matrix_text.push_matrix.Goals as goal
+use Rattle.answers.proofs.values_text.push_values.Goals as goal
 
 pub loop-row-preserved : goal.loop-row-preserved
 loop-row-preserved c =
@@ -21,4 +21,4 @@ returns-in_err-row-clause-refusal c =
     rw (p.1, p.2) (pushed_refused c.args.rows.now c.loop-row.rows _ c.loop-row.text.items c.in_err-row.field-0.0 c.loop-row.invariant step.0)
 
 pub returns-clause-text : goal.returns-clause-text
-returns-clause-text c = pushed_all c.args.name.now c.args.cols c.args.rows.now c.loop-row.rows c.args.text.now.items c.loop-row.text.items c.loop-row.invariant c.in_default.ensures.0
+returns-clause-text c = pushed_all c.args.name.now c.args.rank c.args.cols c.args.rows.now c.loop-row.rows c.args.text.now.items c.loop-row.text.items c.loop-row.invariant c.in_default.ensures.0
