@@ -7,7 +7,7 @@ use Rattle.answers.specs.declared.outcome.Outcome.TheVariants.{Done, Usage, Form
 use Rattle.ffc.specs.declared.command.Command.{Command}
 use Rattle.ffc.specs.declared.command.Command.TheVariants.{Compile, Check, Assemble}
 use Rattle.ffc.specs.Answer.{AnswersFile, AnswersWords, FileCause, FormCause, HasCause, IsFormOf, IsLoaded, Wrote}
-use Rattle.ffc.specs.Assemble.{AssembleCause, IsMatrixText}
+use Rattle.ffc.specs.Assemble.{AssembleCause, IsAssembledText}
 use Rattle.ffc.specs.Command.{words_of, form_of_command}
 use Rattle.ffc.specs.Inputs.{Loads, loads, IsText, LoadCause}
 use Rattle.ffc.specs.Words.{compile_words, check_words}
@@ -57,8 +57,8 @@ module _ (content : Option (List Held)) (file text : List ℕ) where
     assemble = λ f n m e. (
       file,
       subst (λ x. IsText content x file) (same_form (codes "assemble") form.now name.now mesh.now (codes "-") f n m e) is,
-      subst (λ x. IsMatrixText content file x m text) (same_name (codes "assemble") form.now name.now mesh.now (codes "-") f n m e)
-          (subst (λ x. IsMatrixText content file name.now x text) (same_mesh_name (codes "assemble") form.now name.now mesh.now (codes "-") f n m e) h),
+      subst (λ x. IsAssembledText content file x m text) (same_name (codes "assemble") form.now name.now mesh.now (codes "-") f n m e)
+          (subst (λ x. IsAssembledText content file name.now x text) (same_mesh_name (codes "assemble") form.now name.now mesh.now (codes "-") f n m e) h),
     );
   }
 

@@ -11,7 +11,7 @@ use Rattle.answers.specs.declared.outcome.Outcome.{Outcome}
 use Rattle.ffc.specs.declared.command.Command.{Command}
 use Rattle.ffc.specs.declared.command.Command.TheVariants.{Compile, Check, Assemble}
 use Rattle.ffc.specs.Answer.{AnswersFile, FileCause, CheckCause}
-use Rattle.ffc.specs.Assemble.{AssembleCause, IsMatrixText}
+use Rattle.ffc.specs.Assemble.{AssembleCause, IsAssembledText}
 use Rattle.ffc.specs.Compile.{IsUnitText}
 use Rattle.ffc.specs.Forms.{ProgramCause, NamedCause, CompileCause}
 use Rattle.ffc.specs.Inputs.{Loads}
@@ -31,7 +31,7 @@ front_answer : (content : Option (List Held)) (command : Command) (text out : Li
 front_answer content (Compile form) text out h = subst (λ f. IsUnitText f out) (file_whole text h.program h.says) h
 front_answer content (Check form) text out h = front_check text (Ok out) h
 front_answer content (Assemble form name mesh) text out h =
-    subst (λ f. IsMatrixText content f name.now mesh.now out) (file_whole text h.0 h.4.0) h
+    subst (λ f. IsAssembledText content f name.now mesh.now out) (file_whole text h.program h.has_form.says) h
 
 pub loaded_answer : (content : Option (List Held)) (command : Command) (text file out : List ℕ) → take (FORM_LIMIT + 1) text ≡ file → AnswersFile content command file out
     → AnswersFile content command text out
@@ -52,7 +52,7 @@ named_cause text name o (inr h) = subst (λ f. NamedCause f name o) (file_whole 
 
 assemble_cause : (l : Loads) (text name mesh : List ℕ) (o : Outcome) → AssembleCause l (take (FORM_LIMIT + 1) text) name mesh o → AssembleCause l text name mesh o
 assemble_cause l text name mesh o (inl h) = inl (named_cause text name o h)
-assemble_cause l text name mesh o (inr h) = subst (λ f. AssembleCause l f name mesh o) (file_whole text h.0 h.3.0) (inr h)
+assemble_cause l text name mesh o (inr h) = subst (λ f. AssembleCause l f name mesh o) (file_whole text h.0 h.4.says) (inr h)
 
 check_cause : (text : List ℕ) (o : Outcome) → CheckCause (take (FORM_LIMIT + 1) text) o → CheckCause text o
 check_cause text o (inl memory) = inl memory

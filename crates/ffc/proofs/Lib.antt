@@ -1,10 +1,10 @@
-pub mod MatrixLaws
-pub mod FitLaws
 pub mod WordsLaws
 pub mod LoadLaws
 pub mod FileLaws
-pub mod MassFormLaws
 pub mod FormsLaws
 pub mod AnswerLaws
 pub mod CompleteLaws
+pub mod FunctionNames
 pub mod UnitLaws
+pub mod ValuesLaws
+pub mod AssembleLaws

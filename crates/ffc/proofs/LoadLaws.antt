@@ -8,7 +8,7 @@ use Rattle.mesh_in.specs.MeshData.{MeshData}
 use Rattle.mesh_in.specs.Refusal.{refusal}
 use Rattle.mesh_in.specs.HeaderLine.{IsWrongCell, header_line}
 use Rattle.mesh_in.specs.Reader.{Fails}
-use Rattle.spaces.specs.declared.cell.Cell.TheVariants.{Interval}
+use Rattle.spaces.specs.declared.cell.Cell.{Cell}
 use Rattle.mesh_in.proofs.ReadingLemmas.{long_text}
 use Rattle.mesh_in.specs.declared.refusal.MeshKind.{MeshKind}
 use Rattle.mesh_in.specs.declared.refusal.MeshKind.TheVariants as kind
@@ -55,30 +55,30 @@ mesh_whole text bytes m e is =
     apart : (m : MeshData Fraction) (r : MeshRefusal) → Ok m ≡ Err r → ⊥
     apart m r k = cc
 
-by_kind : (l : Loads) (name text : List ℕ) (r : MeshRefusal) (k : MeshKind) → IsText l.content name text → meaning text ≡ Err r → MeshCause l name (outcome_of_kind k r)
-by_kind l name text r kind.TooLong t e = inr (r, text, refl, t, inl e)
-by_kind l name text r kind.Lex t e = inr (r, text, refl, t, inl e)
-by_kind l name text r kind.Syntax t e = inr (r, text, refl, t, inl e)
-by_kind l name text r kind.Count t e = inr (r, text, refl, t, inl e)
-by_kind l name text r kind.VertexRange t e = inr (r, text, refl, t, inl e)
-by_kind l name text r kind.RepeatedVertex t e = inr (r, text, refl, t, inl e)
-by_kind l name text r kind.WrongCell t e = inr (r, text, refl, t, inl e)
-by_kind l name text r kind.Degenerate t e = inr (r, text, refl, t, inl e)
-by_kind l name text r kind.TooManyEntries t e = inr (r, text, refl, t, inl e)
-by_kind l name text r kind.Memory t e = inl (inl refl)
+by_kind : (l : Loads) (name : List ℕ) (c : Cell) (text : List ℕ) (r : MeshRefusal) (k : MeshKind) → IsText l.content name text → meaning text ≡ Err r → MeshCause l name c (outcome_of_kind k r)
+by_kind l name c text r kind.TooLong t e = inr (r, text, refl, t, inl e)
+by_kind l name c text r kind.Lex t e = inr (r, text, refl, t, inl e)
+by_kind l name c text r kind.Syntax t e = inr (r, text, refl, t, inl e)
+by_kind l name c text r kind.Count t e = inr (r, text, refl, t, inl e)
+by_kind l name c text r kind.VertexRange t e = inr (r, text, refl, t, inl e)
+by_kind l name c text r kind.RepeatedVertex t e = inr (r, text, refl, t, inl e)
+by_kind l name c text r kind.WrongCell t e = inr (r, text, refl, t, inl e)
+by_kind l name c text r kind.Degenerate t e = inr (r, text, refl, t, inl e)
+by_kind l name c text r kind.TooManyEntries t e = inr (r, text, refl, t, inl e)
+by_kind l name c text r kind.Memory t e = inl (inl refl)
 
 -- a mesh of other cells
-wrong_cell : (text bytes : List ℕ) (r : MeshRefusal) → take (longest + 1) text ≡ bytes → IsWrongCell Interval bytes r → IsWrongCell Interval text r
-wrong_cell text bytes r e (m, is, other, refused) = subst (λ (b : List ℕ). IsWrongCell Interval b r) (mesh_whole text bytes m e is) (m, is, other, refused)
+wrong_cell : (c : Cell) (text bytes : List ℕ) (r : MeshRefusal) → take (longest + 1) text ≡ bytes → IsWrongCell c bytes r → IsWrongCell c text r
+wrong_cell c text bytes r e (m, is, other, refused) = subst (λ (b : List ℕ). IsWrongCell c b r) (mesh_whole text bytes m e is) (m, is, other, refused)
 
-by_cell : (l : Loads) (name text : List ℕ) (r : MeshRefusal) → IsText l.content name text → IsWrongCell Interval text r → MeshCause l name (mesh_outcome r)
-by_cell l name text r t (m, is, other, refused) =
-    subst (λ (s : MeshRefusal). MeshCause l name (mesh_outcome s)) (sym refused) (inr (refusal kind.WrongCell (header_line text), text, refl, t, inr (m, is, other, refl)))
+by_cell : (l : Loads) (name : List ℕ) (c : Cell) (text : List ℕ) (r : MeshRefusal) → IsText l.content name text → IsWrongCell c text r → MeshCause l name c (mesh_outcome r)
+by_cell l name c text r t (m, is, other, refused) =
+    subst (λ (s : MeshRefusal). MeshCause l name c (mesh_outcome s)) (sym refused) (inr (refusal kind.WrongCell (header_line text), text, refl, t, inr (m, is, other, refl)))
 
 -- a refusal of the text as the outcome
-pub mesh_fits : (l : Loads) (name text bytes lent : List ℕ) (r : MeshRefusal) (o : Outcome) → IsText l.content name text → take (longest + 1) text ≡ bytes → lent ≡ bytes
-    → Fails r (meaning lent) ⊎ IsWrongCell Interval lent r → o ≡ mesh_outcome r → MeshCause l name o
-mesh_fits l name text bytes lent r o t e same (inl (inl memory)) is = subst (MeshCause l name) (sym is) (subst (λ (s : MeshRefusal). MeshCause l name (mesh_outcome s)) (sym memory) (inl (inl refl)))
-mesh_fits l name text bytes lent r o t e same (inl (inr refused)) is = subst (MeshCause l name) (sym is) (by_kind l name text r r.kind t (sym (ap meaning same ∙ same_meaning text bytes e) ∙ refused))
-mesh_fits l name text bytes lent r o t e same (inr wrong) is =
-    subst (MeshCause l name) (sym is) (by_cell l name text r t (wrong_cell text bytes r e (subst (λ (b : List ℕ). IsWrongCell Interval b r) same wrong)))
+pub mesh_fits : (l : Loads) (name : List ℕ) (c : Cell) (text bytes lent : List ℕ) (r : MeshRefusal) (o : Outcome) → IsText l.content name text → take (longest + 1) text ≡ bytes → lent ≡ bytes
+    → Fails r (meaning lent) ⊎ IsWrongCell c lent r → o ≡ mesh_outcome r → MeshCause l name c o
+mesh_fits l name c text bytes lent r o t e same (inl (inl memory)) is = subst (MeshCause l name c) (sym is) (subst (λ (s : MeshRefusal). MeshCause l name c (mesh_outcome s)) (sym memory) (inl (inl refl)))
+mesh_fits l name c text bytes lent r o t e same (inl (inr refused)) is = subst (MeshCause l name c) (sym is) (by_kind l name c text r r.kind t (sym (ap meaning same ∙ same_meaning text bytes e) ∙ refused))
+mesh_fits l name c text bytes lent r o t e same (inr wrong) is =
+    subst (MeshCause l name c) (sym is) (by_cell l name c text r t (wrong_cell c text bytes r e (subst (λ (b : List ℕ). IsWrongCell c b r) same wrong)))

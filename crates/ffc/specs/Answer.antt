@@ -1,14 +1,14 @@
 -- What a run leaves in its files and sinks
-use Rattle.std.specs.Prelude.{◌≡◌, ◌≢◌, ◌⊎◌, ◌+◌, ℕ, List, [], take, Option, Some, Ok, Err}
-use Rattle.std.specs.List.{AllByRecursion}
+use Rattle.std.specs.Prelude.{◌≡◌, ◌≢◌, ◌⊎◌, ◌+◌, ◌<◌, ◌^◌, ℕ, List, [], length, take, Option, Some, Ok, Err}
 use Rattle.algebra.specs.Fraction.{Fraction}
 use Rattle.ends.specs.Count.{Rises}
 use Rattle.ends.specs.Held.{Held, bytes_of}
 use Rattle.ends.specs.Told.{appended, TakesPrefix}
 use Rattle.slices.specs.declared.form_toks.TheConstants.{FORM_LIMIT}
 use Rattle.mesh_in.specs.MeshData.{MeshData}
-use Rattle.ratio.specs.declared.reduced.Ratio.{Ratio}
-use Rattle.form_values.specs.MassMatrix.{HasMatrix}
+use Rattle.monos.specs.declared.weight.Weight.{Weight}
+use Rattle.ufl_form.specs.declared.table.FormKind.{FormKind}
+use Rattle.form_assembly.specs.Assembled.{HasValues, cell_room}
 use Rattle.ufl_read.specs.declared.refusal.FormRefusal.{FormRefusal}
 use Rattle.ufl_elab.specs.declared.program.Named.{Named}
 use Rattle.ufl_elab.specs.declared.program.UflProgram.{UflProgram}
@@ -18,10 +18,10 @@ use Rattle.answers.specs.Lines.{Says}
 use Rattle.answers.specs.Outcome.{form_outcome}
 use Rattle.answers.specs.declared.outcome.Outcome.{Outcome}
 use Rattle.answers.specs.declared.outcome.Outcome.TheVariants.{Done, Usage, Form, NotYet, WriteFault, Memory}
-use Rattle.ffc.specs.Assemble.{AssembleCause, HasForm, IsMatrixText}
+use Rattle.ffc.specs.Assemble.{AssembleCause, HasForm, IsAssembledText}
 use Rattle.ffc.specs.Compile.{IsUnitText}
-use Rattle.ffc.specs.Forms.{CanCompile, CompileCause}
-use Rattle.ffc.specs.Inputs.{Loads, IsText, LoadCause, IsIntervals}
+use Rattle.ffc.specs.Forms.{CompileCause, problem_of, occurring_of}
+use Rattle.ffc.specs.Inputs.{Loads, IsText, LoadCause, IsMeshText}
 use Rattle.ffc.specs.declared.command.Command.{Command}
 use Rattle.ffc.specs.declared.command.Command.TheVariants.{Compile, Check, Assemble}
 use Rattle.ffc.specs.Words.{compile_words, assemble_words, check_words}
@@ -40,14 +40,14 @@ IsCheckText file text = IsCheck file (Ok text)
 abbrev pub AnswersFile : Option (List Held) → Command → List ℕ → List ℕ → Type 0
 AnswersFile content (Compile form) file text = IsUnitText file text
 AnswersFile content (Check form) file text = IsCheckText file text
-AnswersFile content (Assemble form name mesh) file text = IsMatrixText content file name.now mesh.now text
+AnswersFile content (Assemble form name mesh) file text = IsAssembledText content file name.now mesh.now text
 
 -- the answer to these words
 pub record AnswersWords (content : Option (List Held)) (words : List (List ℕ)) (text : List ℕ) : Type 0 where
   pub compile : (form : List ℕ) → words ≡ compile_words form → OfFile content form (λ file. IsUnitText file text)
   pub check : (form : List ℕ) → words ≡ check_words form → OfFile content form (λ file. IsCheckText file text)
   pub assemble : (form name mesh : List ℕ) → words ≡ assemble_words form name mesh
-      → OfFile content form (λ file. IsMatrixText content file name mesh text)
+      → OfFile content form (λ file. IsAssembledText content file name mesh text)
 
 -- a run that is done wrote an answer, a fault of writing a prefix of one, and any other run nothing
 abbrev pub Wrote : Outcome → Option (List ℕ) → Option (List ℕ) → (List ℕ → Type 0) → Type 0
@@ -119,21 +119,25 @@ SaysOf content words o old new before now =
 abbrev pub HoldFile : List Held → List ℕ → (List ℕ → Type 0) → Type 0
 HoldFile files name Holds = (text : List ℕ) × (bytes_of files name ≡ Some text) × Holds text
 
--- a file all of whose forms can be compiled, and it exports one
+-- a file with a program that exports a form
 pub record CanPrint (file : List ℕ) : Type 0 where
   pub program : UflProgram
   pub says : IsFileOf file (Ok program)
   pub some : program.forms ≢ []
-  pub all : AllByRecursion (CanCompile program) program.forms
+
+-- a form and a mesh with values, whose cells have room
+pub record CanAssemble (p : UflProgram) (n : Named) (w : Weight) (m : MeshData Fraction) : Type 0 where
+  pub values : HasValues (problem_of p n m) (occurring_of p n)
+  pub rooms : (k : ℕ) → k < length m.cells → cell_room (problem_of p n m) (occurring_of p n) w k < 2 ^ 127
 
 -- the words are those of a command, and each file that they name is held and accepted; no cell is flat, and neither a cell nor a sum passes
 pub data CanAnswer (files : List Held) (words : List (List ℕ)) : Type 0 where
   Compiles : (form : List ℕ) → words ≡ compile_words form → HoldFile files form CanPrint → CanAnswer files words
   Checks : (form lines : List ℕ) → words ≡ check_words form → HoldFile files form (λ file. IsCheckText file lines)
       → CanAnswer files words
-  Assembles : (form name mesh : List ℕ) (p : UflProgram) (n : Named) (c : Ratio) (m : MeshData Fraction)
-      → words ≡ assemble_words form name mesh → HoldFile files form (λ file. HasForm file name p n c)
-      → HoldFile files mesh (λ text. IsIntervals text m) → HasMatrix m c → CanAnswer files words
+  Assembles : (form name mesh : List ℕ) (p : UflProgram) (n : Named) (k : FormKind) (w : Weight) (m : MeshData Fraction)
+      → words ≡ assemble_words form name mesh → HoldFile files form (λ file. HasForm file name p n k w)
+      → HoldFile files mesh (λ text. IsMeshText k.cell text m) → CanAssemble p n w m → CanAnswer files words
 
 -- where the files are told, the words can be answered and no fault was counted, the answer comes unless memory is wanting
 abbrev pub IsComplete : Loads → List (List ℕ) → ℕ → ℕ → Outcome → Type 0

@@ -3,7 +3,7 @@ use Rattle.std.specs.Prelude.{◌≡◌, ◌⊎◌, ℕ, List, Option, Some, Non
 use Rattle.algebra.specs.Fraction.{Fraction}
 use Rattle.ends.specs.Count.{Rises}
 use Rattle.ends.specs.Held.{Held, bytes_of}
-use Rattle.spaces.specs.declared.cell.Cell.TheVariants.{Interval}
+use Rattle.spaces.specs.declared.cell.Cell.{Cell}
 use Rattle.mesh_in.specs.MeshData.{MeshData}
 use Rattle.mesh_in.specs.MeshText.{meaning}
 use Rattle.mesh_in.specs.declared.refusal.MeshRefusal.{MeshRefusal}
@@ -34,19 +34,19 @@ LoadCause l file name o = (o ≡ Memory) ⊎ ((o ≡ ReadFault file) × Rises l.
 
 -- ---- the mesh: file 2
 
--- the text stands for a mesh of intervals
-abbrev pub IsIntervals : List ℕ → MeshData Fraction → Type 0
-IsIntervals text m = (meaning text ≡ Ok m) × (m.kind ≡ Interval)
+-- the text stands for a mesh of these cells
+abbrev pub IsMeshText : Cell → List ℕ → MeshData Fraction → Type 0
+IsMeshText c text m = (meaning text ≡ Ok m) × (m.kind ≡ c)
 
-abbrev pub HasMesh : Option (List Held) → List ℕ → MeshData Fraction → Type 0
-HasMesh content name m = (text : List ℕ) × IsText content name text × IsIntervals text m
+abbrev pub HasMesh : Option (List Held) → List ℕ → Cell → MeshData Fraction → Type 0
+HasMesh content name c m = (text : List ℕ) × IsText content name text × IsMeshText c text m
 
 -- when a mesh is refused: by its text, or for its cells
-abbrev pub MeshRefuses : MeshRefusal → List ℕ → Type 0
-MeshRefuses r text = (meaning text ≡ Err r) ⊎ IsWrongCell Interval text r
+abbrev pub MeshRefuses : Cell → MeshRefusal → List ℕ → Type 0
+MeshRefuses c r text = (meaning text ≡ Err r) ⊎ IsWrongCell c text r
 
 -- why there is no mesh: its file was not loaded, or is refused
-abbrev pub MeshCause : Loads → List ℕ → Outcome → Type 0
-MeshCause l name o =
+abbrev pub MeshCause : Loads → List ℕ → Cell → Outcome → Type 0
+MeshCause l name c o =
     LoadCause l 2 name o
-    ⊎ ((r : MeshRefusal) × (text : List ℕ) × (o ≡ Mesh r) × IsText l.content name text × MeshRefuses r text)
+    ⊎ ((r : MeshRefusal) × (text : List ℕ) × (o ≡ Mesh r) × IsText l.content name text × MeshRefuses c r text)

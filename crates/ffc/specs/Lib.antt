@@ -1,10 +1,8 @@
 pub mod Words
-pub mod MassForm
 pub mod Forms
 pub mod Unit
 pub mod Inputs
 pub mod Assemble
-pub mod MassRows
 pub mod Compile
 pub mod Answer
 pub mod Command

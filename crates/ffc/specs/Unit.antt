@@ -1,41 +1,40 @@
 -- The unit that is printed for the forms of a file
-use Rattle.std.specs.Prelude.{◌≡◌, ◌≤◌, ◌⊎◌, ℕ, List, [], ◌∷◌, ◌++◌, codes}
-use Rattle.algebra.specs.Fraction.{Fraction}
-use Rattle.ratio.specs.declared.reduced.Ratio.{Ratio}
-use Rattle.ratio.specs.Value.{fraction_of}
+use Rattle.std.specs.Prelude.{◌≡◌, ℕ, ◌+◌, ◌*◌, ◌≤◌, ◌^◌, List, [], ◌∷◌, ◌++◌, map}
+use Rattle.std.specs.List.{AllByRecursion}
 use Rattle.c_unit.specs.declared.unit.CFun.{CFun}
-use Rattle.c_unit.specs.Meaning.{ran, counted_list}
-use Rattle.c_unit.specs.Rules.{KeepsSizes}
-use Rattle.kernel.specs.MassShare.{outcome, mass_outcome}
+use Rattle.monos.specs.declared.weight.Weight.{Weight}
+use Rattle.ufl_tree.specs.Places.{table_of}
+use Rattle.ufl_form.specs.declared.table.FormKind.{FormKind}
+use Rattle.assembly.specs.declared.funs.Funs.{Funs}
+use Rattle.assembly.specs.declared.funs.MarkedFun.{MarkedFun}
 use Rattle.ufl_elab.specs.declared.program.Named.{Named}
 use Rattle.ufl_elab.specs.declared.program.UflProgram.{UflProgram}
 use Rattle.ufl_program.specs.Names.{name_of}
-use Rattle.answers.specs.declared.outcome.Outcome.{Outcome}
-use Rattle.answers.specs.declared.outcome.Outcome.TheVariants.{Memory}
-use Rattle.ffc.specs.Forms.{IsMassForm, CannotCompile, not_yet}
+use Rattle.form_kernels.specs.Admitted.{HasFormFunctions}
+use Rattle.ffc.specs.Forms.{IsAdmitted, term_of}
 
--- The function of the form c*u*v*dx with a name. Its run on a cell gives the shares of the cell, or returns 2 where the
--- difference of the coordinates fits and is 0, or 1 where a number that the kernel forms passes: that difference, or a
--- share. It keeps within its arrays and makes at most 224 statements.
-pub record IsMassFunction (name : List ℕ) (c : Fraction) (f : CFun) : Type 0 where
-  pub name_is : f.name ≡ codes "ffc_" ++ name
-  pub x : f.x ≡ 2
-  pub w : f.w ≡ 0
-  pub a : f.a ≡ 4
-  pub share : (x₀ x₁ : Fraction) → outcome (ran f (x₀ ∷ x₁ ∷ []) []) ≡ mass_outcome c x₀ x₁
-  pub bound : counted_list f.body ≤ 224
-  pub sizes : KeepsSizes f
+-- that for the cells whose marker the form doesn't name, and then those for its markers, which rise
+abbrev pub function_list : Funs → List CFun
+function_list funs = funs.plain ∷ map (λ (m : MarkedFun). m.fun) funs.marked.items
 
-abbrev pub IsFunctionOf : List ℕ → UflProgram → Named → CFun → Type 0
-IsFunctionOf file p n f = (c : Ratio) × IsMassForm p n c × IsMassFunction (name_of file n) (fraction_of c) f
+-- The functions of a form. The run of each on a cell with its marker gives the cell's shares, with these coefficient
+-- values; it returns 2 only where the cell is flat, and 1 only where the cell's room is 2^127 or more
+pub record IsFormUnit (file : List ℕ) (p : UflProgram) (n : Named) (fs : List CFun) : Type 0 where
+  pub kind : FormKind
+  pub weight : Weight
+  pub funs : Funs
+  pub admitted : IsAdmitted p n kind weight
+  pub functions : HasFormFunctions (table_of p.elements) p.coefficients (term_of n) kind.cell weight (name_of file n) funs
+  pub list : fs ≡ function_list funs
 
--- why a form has none
-abbrev pub FunctionRefused : UflProgram → Named → Outcome → Type 0
-FunctionRefused p n o = (o ≡ Memory) ⊎ (CannotCompile p n × (o ≡ not_yet n))
+-- those of all forms, in order
+pub data AreFunctionsOf (file : List ℕ) (p : UflProgram) : List Named → List CFun → Type 0 where
+  none : AreFunctionsOf file p [] []
+  more : {n : Named} {ns : List Named} {own others : List CFun} → IsFormUnit file p n own → AreFunctionsOf file p ns others
+      → AreFunctionsOf file p (n ∷ ns) (own ++ others)
 
--- one for each form, in order
-abbrev pub AreFunctionsOf : List ℕ → UflProgram → List Named → List CFun → Type 0
-AreFunctionsOf file p [] [] = Unit {0}
-AreFunctionsOf file p (n ∷ ns) (f ∷ fs) = IsFunctionOf file p n f × AreFunctionsOf file p ns fs
-AreFunctionsOf file p [] (f ∷ fs) = ⊥
-AreFunctionsOf file p (n ∷ ns) [] = ⊥
+-- no run makes more than 2^26 statements
+abbrev pub AreShort : UflProgram → List Named → Type 0
+AreShort p ns =
+    AllByRecursion
+    (λ (n : Named). (k : FormKind) (w : Weight) → IsAdmitted p n k w → (w.g + w.rmax + 4) * w.cost + 200 ≤ 2 ^ 26) ns

@@ -1,16 +1,16 @@
 //! The command `assemble`.
 ghost use Rattle.std.specs.Prelude.{IfOk, IfErr};
 ghost use Rattle.ffc.specs.Inputs.{loads};
-ghost use Rattle.ffc.specs.Assemble.{AssembleCause, IsMatrixText};
+ghost use Rattle.ffc.specs.Assemble.{AssembleCause, IsAssembledText};
 
-use crate::forms::form_of_name;
+use crate::forms::{form_of_name, program_of};
 use crate::inputs::load_mesh;
-use crate::matrix::mass_text;
+use crate::values::values_text;
 use answers::Outcome;
 use ends::files::Files;
 use std::alloc::Global;
 
-/// The text of the matrix of the form of a name on the mesh. Nothing is said of a mesh before the form is accepted.
+/// The text of the values of the form of a name on the mesh. Nothing is said of a mesh before the form is accepted.
 pub fn assemble<F: Files>(
     alloc: Global,
     files: &mut F,
@@ -18,13 +18,14 @@ pub fn assemble<F: Files>(
     name: &str,
     mesh: &str,
 ) -> Result<Vec<u8>, Outcome>
-    ensures text { IfOk result (λ text. IsMatrixText (F.content files.old) file.now name.now mesh.now text.items) }
+    ensures text { IfOk result (λ text. IsAssembledText (F.content files.old) file.now name.now mesh.now text.items) }
     ensures cause { IfErr result (AssembleCause (loads (F.content files.old) (F.faults files.old)
         (F.faults files.new) (F.last_failed files.new)) file.now name.now mesh.now) }
 {
     let name = name.as_bytes();
-    let factor = form_of_name(alloc, file, name)?;
-    let mesh = load_mesh(alloc, files, mesh)?;
-    let text = mass_text(alloc, name, factor, &mesh)?;
+    let program = program_of(alloc, file)?;
+    let named = form_of_name(alloc, file, &program, name)?;
+    let mesh = load_mesh(alloc, files, named.form.cell(), mesh)?;
+    let text = values_text(alloc, name, &program, named, &mesh)?;
     Ok(text)
 }

@@ -1,49 +1,70 @@
 //! The command `compile`.
-ghost use Rattle.std.specs.Prelude.{◌≡◌, ◌≢◌, ◌++◌, ◌∷◌, [], Ok, IfOk, IfErr, OnOk, OnErr};
+ghost use Rattle.std.specs.Prelude.{◌≡◌, ◌≢◌, ◌++◌, [], Ok, IfOk, IfErr, OnOk, OnErr};
+ghost use Rattle.std.specs.List.{AllByRecursion};
 ghost use Rattle.form_files.specs.Admissions.{IsFileOf};
 ghost use Rattle.ffc.specs.Compile.{IsUnitText};
-ghost use Rattle.ffc.specs.Forms.{CompileCause, FormsRefused};
-ghost use Rattle.ffc.specs.Unit.{AreFunctionsOf, IsFunctionOf, FunctionRefused};
+ghost use Rattle.ffc.specs.Forms.{CompileCause, IsExported};
+ghost use Rattle.ffc.specs.Unit.{AreFunctionsOf, IsFormUnit, function_list};
 
-use crate::forms::{factor_of, name_of, some_forms};
-use crate::matrix::mass_function;
+use crate::forms::{name_of, some_forms};
 use answers::Outcome;
+use assembly::Funs;
 use c_text::print_unit;
 use c_unit::{CFun, CUnit};
+use form_kernels::functions;
 use sqlite_items::Items;
-use std::alloc::Global;
+use std::alloc::{AllocError, Global};
 use ufl_elab::{Named, UflProgram};
 
-/// The function of a form.
-fn function_of(
-    alloc: Global,
-    file: &[u8],
-    program: &UflProgram,
-    named: &Named,
-) -> Result<CFun, Outcome>
-    ensures function { IfOk result (IsFunctionOf file.now program.now named.now) }
-    ensures cause { IfErr result (FunctionRefused program.now named.now) }
+/// The functions of a form behind those of the forms before it: that for the other cells, and then those for its markers.
+fn push_functions(funs: Funs, all: &mut Items<CFun>) -> Result<(), AllocError>
+    ensures { OnOk result (all.new ≡ all.old ++ function_list funs) }
 {
-    let factor = factor_of(program, named)?;
-    let function = mass_function(alloc, name_of(file, named), factor)?;
-    Ok(function)
+    all.push(funs.plain)?;
+    for marked in funs.marked {
+        all.push(marked.fun)?;
+    }
+    Ok(())
 }
 
-/// A function for each form, in order.
+/// The functions of an exported form.
 fn functions_of(
     alloc: Global,
     file: &[u8],
     program: &UflProgram,
-    forms: &[Named],
-) -> Result<Items<CFun>, Outcome>
-    ensures functions { IfOk result (AreFunctionsOf file.now program.now forms.now) }
-    ensures cause { IfErr result (FormsRefused program.now forms.now) }
+    named: &Named,
+) -> Result<Funs, AllocError>
+    requires { IsExported program.now named.now }
+    ensures { IfOk result (λ funs. IsFormUnit file.now program.now named.now (function_list funs)) }
 {
-    let mut functions = Items::new(alloc);
+    // That the table of forms allows the tree gives the form's cell.
+    let _tree = named.form.tree();
+    let of_form = functions(
+        alloc,
+        name_of(file, named),
+        &named.form,
+        &program.elements,
+        program.coefficients.as_slice(),
+    )?;
+    Ok(of_form.functions)
+}
+
+/// Those of all these forms, in order.
+fn all_functions(
+    alloc: Global,
+    file: &[u8],
+    program: &UflProgram,
+    forms: &[Named],
+) -> Result<Items<CFun>, AllocError>
+    requires { AllByRecursion (IsExported program.now) forms.now }
+    ensures { IfOk result (AreFunctionsOf file.now program.now forms.now) }
+{
+    let mut all = Items::new(alloc);
     for named in forms {
-        functions.push(function_of(alloc, file, program, named)?)?;
+        let functions = functions_of(alloc, file, program, named)?;
+        push_functions(functions, &mut all)?;
     }
-    Ok(functions)
+    Ok(all)
 }
 
 /// The C text of the unit of the forms that a file exports.
@@ -53,7 +74,7 @@ pub fn compile(alloc: Global, file: &[u8]) -> Result<Vec<u8>, Outcome>
 {
     let program = some_forms(alloc, file)?;
     let unit = CUnit {
-        funs: functions_of(alloc, file, &program, program.forms.as_slice())?,
+        funs: all_functions(alloc, file, &program, program.forms.as_slice())?,
     };
     let mut text = Vec::new(alloc);
     print_unit(&unit, &mut text)?;

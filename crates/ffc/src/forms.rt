@@ -1,20 +1,14 @@
 //! The forms of a form file that a command asks for.
-ghost use Rattle.std.specs.Prelude.{◌≡◌, ◌≢◌, [], Ok, Some, IfOk, IfErr, IsOk};
+ghost use Rattle.std.specs.Prelude.{◌≡◌, ◌≢◌, [], Ok, IfOk, IfErr};
+ghost use Rattle.std.specs.List.{AllByRecursion};
 ghost use Rattle.std.specs.Option.{option_copied};
-ghost use Rattle.ratio.specs.Value.{fraction_of};
-ghost use Rattle.kernel.specs.MassShare.{IsSmallFactor};
-ghost use Rattle.ufl_form.specs.Reading.{form_of};
-ghost use Rattle.ufl_form.specs.Table.{form_kind};
 ghost use Rattle.form_files.specs.Admissions.{IsFileOf};
 ghost use Rattle.ufl_program.specs.Names.{name_of};
-ghost use Rattle.ffc.specs.Forms.{form_named, no_form, not_yet, IsMassForm, CannotCompile, IsNamed, ProgramCause, NamedCause, NamedRefused, CompileCause};
-ghost use Rattle.ufl_elab.specs.declared.program.Named.{Named};
-ghost use Rattle.ufl_elab.specs.declared.program.UflProgram.{UflProgram};
+ghost use Rattle.ffc.specs.Forms.{form_named, no_form, not_yet, IsExported, HasWeight, IsNamed, ProgramCause, NamedOrMemory, CompileCause};
 
-use crate::mass_form::mass_factor;
 use answers::{FormName, Outcome};
 use form_files::admitted_program;
-use ratio::Ratio;
+use form_layouts::find_occurrences;
 use std::alloc::Global;
 use ufl_elab::{Named, UflProgram};
 use ufl_read::{FormKind, FormRefusal};
@@ -47,22 +41,10 @@ fn not_yet(named: &Named) -> Outcome
     })
 }
 
-/// The number of this form, where it can be compiled.
-pub fn factor_of(program: &UflProgram, named: &Named) -> Result<Ratio, Outcome>
-    ensures mass { IfOk result (IsMassForm program.now named.now) }
-    ensures typed { IfOk result (λ _. IsOk (form_kind (form_of named.now.form))) }
-    ensures none { IfErr result (λ _. CannotCompile program.now named.now) }
-    ensures outcome { IfErr result (λ o. o ≡ not_yet named.now) }
-{
-    match mass_factor(&program.elements, &named.form) {
-        Some(factor) => Ok(factor),
-        None => Err(not_yet(named)),
-    }
-}
-
 /// The program of a form file, its forms admitted.
 pub fn program_of(alloc: Global, file: &[u8]) -> Result<UflProgram, Outcome>
     ensures says { IfOk result (λ p. IsFileOf file.now (Ok p)) }
+    ensures exported { IfOk result (λ p. AllByRecursion (IsExported p) p.forms) }
     ensures cause { IfErr result (ProgramCause file.now) }
 {
     match admitted_program(alloc, file) {
@@ -74,6 +56,7 @@ pub fn program_of(alloc: Global, file: &[u8]) -> Result<UflProgram, Outcome>
 /// The program of a form file that exports a form.
 pub fn some_forms(alloc: Global, file: &[u8]) -> Result<UflProgram, Outcome>
     ensures says { IfOk result (λ p. IsFileOf file.now (Ok p)) }
+    ensures exported { IfOk result (λ p. AllByRecursion (IsExported p) p.forms) }
     ensures some { IfOk result (λ p. p.forms ≢ []) }
     ensures cause { IfErr result (CompileCause file.now) }
 {
@@ -96,23 +79,26 @@ fn named_form<'p>(file: &[u8], forms: &'p [Named], name: &[u8]) -> Option<&'p Na
     None
 }
 
-/// The number of the form of this name in the program of this file.
-pub fn factor_named(file: &[u8], program: &UflProgram, name: &[u8]) -> Result<Ratio, Outcome>
-    ensures mass { IfOk result (λ c. (n : Named) × IsNamed file.now program.now name.now n c) }
-    ensures cause { IfErr result (NamedRefused file.now program.now name.now) }
+/// The form of this name in the program of this file, where no coefficient occurs in it. All forms there are admitted.
+pub fn form_of_name<'p>(
+    alloc: Global,
+    file: &[u8],
+    program: &'p UflProgram,
+    name: &[u8],
+) -> Result<&'p Named, Outcome>
+    requires { AllByRecursion (IsExported program.now) program.now.forms }
+    ensures named { IfOk result (λ n. IsNamed file.now program.now name.now n.now) }
+    ensures weight { IfOk result (λ n. HasWeight program.now n.now) }
+    ensures cause { IfErr result (NamedOrMemory file.now program.now name.now) }
 {
-    match named_form(file, program.forms.as_slice(), name) {
-        Some(named) => factor_of(program, named),
-        None => Err(no_form()),
+    let Some(named) = named_form(file, program.forms.as_slice(), name) else {
+        return Err(no_form());
+    };
+    // That the table of forms allows the tree gives the form's cell.
+    let _tree = named.form.tree();
+    let occurrences = find_occurrences(alloc, &named.form, program.coefficients.len())?;
+    if !occurrences.coefficients.is_empty() {
+        return Err(not_yet(named));
     }
-}
-
-/// The form of this name.
-pub fn form_of_name(alloc: Global, file: &[u8], name: &[u8]) -> Result<Ratio, Outcome>
-    ensures form { IfOk result (λ c. (p : UflProgram) × IsFileOf file.now (Ok p) × (n : Named) × IsNamed file.now p name.now n c) }
-    ensures small { IfOk result (λ c. IsSmallFactor (fraction_of c)) }
-    ensures cause { IfErr result (NamedCause file.now name.now) }
-{
-    let program = program_of(alloc, file)?;
-    factor_named(file, &program, name)
+    Ok(named)
 }

@@ -1,7 +1,6 @@
 //! The form and the mesh that a command names.
 ghost use Rattle.std.specs.Prelude.{◌≡◌, ◌+◌, ◌<◌, ◌^◌, ℕ, List, take, OnOk, IfOk, IfErr};
-ghost use Rattle.mesh_in.specs.MeshData.{fractions};
-ghost use Rattle.form_values.specs.MassMatrix.{IsIntervalMesh};
+ghost use Rattle.mesh_in.specs.MeshData.{IsMesh, fractions};
 ghost use Rattle.ffc.specs.Inputs.{loads, IsText, LoadCause, HasMesh, MeshCause};
 
 use answers::Outcome;
@@ -47,15 +46,20 @@ pub fn load_form<F: Files>(alloc: Global, files: &mut F, name: &str) -> Result<V
     load(alloc, files, name, FORM_LIMIT, 1)
 }
 
-/// Loads a mesh of intervals.
-pub fn load_mesh<F: Files>(alloc: Global, files: &mut F, name: &str) -> Result<Mesh, Outcome>
-    ensures mesh { IfOk result (λ mesh. HasMesh (F.content files.old) name.now (fractions mesh)) }
-    ensures intervals { IfOk result IsIntervalMesh }
+/// Loads a mesh of these cells.
+pub fn load_mesh<F: Files>(
+    alloc: Global,
+    files: &mut F,
+    cell: Cell,
+    name: &str,
+) -> Result<Mesh, Outcome>
+    ensures mesh { IfOk result (λ mesh. HasMesh (F.content files.old) name.now cell (fractions mesh)) }
+    ensures lawful { IfOk result IsMesh }
     ensures cause { IfErr result (MeshCause (loads (F.content files.old) (F.faults files.old)
-        (F.faults files.new) (F.last_failed files.new)) name.now) }
+        (F.faults files.new) (F.last_failed files.new)) name.now cell) }
 {
     let text = load(alloc, files, name, MESH_LIMIT, 2)?;
-    match read_mesh_of(alloc, Cell::Interval, text.as_slice()) {
+    match read_mesh_of(alloc, cell, text.as_slice()) {
         Ok(mesh) => Ok(mesh),
         Err(refusal) => Err(Outcome::from(refusal)),
     }

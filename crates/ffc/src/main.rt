@@ -8,11 +8,12 @@ mod command;
 mod compile;
 mod forms;
 mod inputs;
-mod mass_form;
-mod matrix;
 mod program;
 #[cfg(test)]
 mod tests;
+mod values;
+#[cfg(test)]
+mod worked;
 
 use ends::real::{RealFiles, StdSink};
 use program::program;

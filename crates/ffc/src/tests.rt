@@ -25,21 +25,28 @@ const TWO: &str = "mesh 1 interval 2 1\n0\n2\n0 1\n";
 
 // The text that docs/KERNEL_TEXT.md shows.
 const UNIT: &str = "#include \"fr.h\"
-enum { ffc_a_X = 2, ffc_a_W = 0, ffc_a_T = 5, ffc_a_A = 4 };
+enum { ffc_a_X = 2, ffc_a_W = 0, ffc_a_T = 36, ffc_a_A = 4 };
 int ffc_a(const fr *X, const fr *W, fr *A)
 {
-  fr T[5];
-  fr_clear(T, 5);
+  fr T[36];
+  fr_clear(T, 36);
   fr_clear(A, 4);
+  static const fr_lit K0[1] = { { 0, 0u, 1u, 0u, 3u } };
   if (fr_sub(&T[0], &X[1], &X[0])) return 1;
-  if (fr_inv(&T[1], &T[0])) return 2;
-  fr_abs(&T[2], &T[0]);
-  fr_set(&T[3], 0, 0u, 1u, 0u, 3u);
-  fr_set(&T[4], 0, 0u, 1u, 0u, 6u);
-  if (fr_mul(&A[0], &T[2], &T[3])) return 1;
-  if (fr_mul(&A[1], &T[2], &T[4])) return 1;
-  if (fr_mul(&A[2], &T[2], &T[4])) return 1;
-  if (fr_mul(&A[3], &T[2], &T[3])) return 1;
+  fr_copy(&T[18], &T[0]);
+  if (fr_inv(&T[19], &T[18])) return 2;
+  fr_abs(&T[20], &T[18]);
+  fr_copy(&T[21], &T[19]);
+  fr_load(&T[32], &K0[0]);
+  if (fr_mul(&T[35], &T[20], &T[32])) return 1;
+  if (fr_add(&A[0], &A[0], &T[35])) return 1;
+  fr_set(&T[32], 0, 0u, 1u, 0u, 2u);
+  if (fr_mul(&T[32], &T[32], &T[35])) return 1;
+  if (fr_add(&A[1], &A[1], &T[32])) return 1;
+  fr_set(&T[32], 0, 0u, 1u, 0u, 2u);
+  if (fr_mul(&T[32], &T[32], &T[35])) return 1;
+  if (fr_add(&A[2], &A[2], &T[32])) return 1;
+  if (fr_add(&A[3], &A[3], &T[35])) return 1;
   return 0;
 }
 ";
@@ -53,8 +60,6 @@ const HALVES: &str = "form a rank 2 rows 2 columns 2\n0 0 1/3\n0 1 1/6\n1 0 1/6\
 const SIZE: &str = "form line 4 refusal 14 Size a\n";
 
 const NO_FORM: &str = "form line 0 refusal 15 NoForm\n";
-
-const NOT_YET: &str = "form line 4 refusal 16 NotYet a\n";
 
 const SYNTAX_4: &str = "form line 4 refusal 4 Syntax\n";
 
@@ -115,11 +120,19 @@ const FACTORS: [(&str, &str, &str); 31] = [
     ("1 *  u*v*dx # twice\n\n", MATRIX, ""),
     ("*u*v*dx\n", "", SYNTAX_4),
     ("1/6*3*u*v*dx", HALVES, ""),
-    ("1*(u*v)*dx\n", "", NOT_YET),
-    ("1*v*u*dx\n", "", NOT_YET),
-    ("u*v*dx(1)\n", "", NOT_YET),
-    ("-(u*v*dx)\n", "", NOT_YET),
-    ("u.dx(0)*v*dx\n", "", NOT_YET),
+    ("1*(u*v)*dx\n", MATRIX, ""),
+    ("1*v*u*dx\n", MATRIX, ""),
+    ("u*v*dx(1)\n", ZEROS, ""),
+    (
+        "-(u*v*dx)\n",
+        "form a rank 2 rows 2 columns 2\n0 0 -2/3\n0 1 -1/3\n1 0 -1/3\n1 1 -2/3\n",
+        "",
+    ),
+    (
+        "u.dx(0)*v*dx\n",
+        "form a rank 2 rows 2 columns 2\n0 0 -1/2\n0 1 1/2\n1 0 -1/2\n1 1 1/2\n",
+        "",
+    ),
     ("u*u*dx\n", "", "form line 4 refusal 12 Arity a\n"),
     ("u*w*dx\n", "", "form line 4 refusal 6 UnknownName w\n"),
     ("3\n*u*v*dx\n", "", SYNTAX_5),
@@ -337,6 +350,28 @@ fn assemble(alloc: Global, form: &str) -> Result<Left, AllocError> {
         fail: None,
     };
     run(alloc, &call)
+}
+
+/// What `assemble` writes of the form of a name on a mesh: on out, and then on err.
+pub(crate) fn assembled(
+    alloc: Global,
+    form: &str,
+    name: &str,
+    mesh: &str,
+) -> Result<Vec<u8>, AllocError> {
+    let mut words = String::from_str(alloc, "assemble form ")?;
+    words.push_str(name)?;
+    words.push_str(" mesh -")?;
+    let call = Call {
+        words: words.as_str(),
+        form,
+        mesh,
+        fail: None,
+    };
+    let left = run(alloc, &call)?;
+    let mut text = Vec::from_slice(alloc, left.out.bytes())?;
+    text.extend_from_slice(left.err.bytes())?;
+    Ok(text)
 }
 
 fn form_text(alloc: Global, tail: &str) -> Result<String, AllocError> {

@@ -1,16 +1,12 @@
-use Rattle.std.proofs.Common.{arith}
-use Rattle.std.proofs.lemmas.Result.{err_from_is_err_and}
-use Rattle.ffc.proofs.FormsLaws.{refused_at, functions_at}
+use Rattle.ffc.proofs.FormsLaws.{has_weight, weight_over, form_unit}
 use Rattle.ffc.proofs.compile.functions_of.Goals as goal
 
-pub returns-in_err-function_of-clause-cause : goal.returns-in_err-function_of-clause-cause
-returns-in_err-function_of-clause-cause c =
-    let p = err_from_is_err_and c.from_residual.result c.from_residual.ensures.1 in
-    rw (p.1, p.2)
-    (refused_at c.args.file.now c.args.program.now c.args.forms.now c.loop-named.named-index c.named-item.result c.loop-named.functions _ (omega arith) c.named-item.is
-    c.loop-named.invariant c.in_err-function_of.ensures.cause)
+pub functions-requires : goal.functions-requires
+functions-requires c =
+    weight_over c.args.program.now c.args.named.now c.as_slice.result.now c.as_slice.ensures
+    (has_weight c.args.program.now c.args.named.now c.requires c.tree-tree.ensures.lawful)
 
-pub loop-named-preserved : goal.loop-named-preserved
-loop-named-preserved c =
-    functions_at c.args.file.now c.args.program.now c.args.forms.now c.loop-named.named-index c.named-item.result c.loop-named.functions c.push.new.self c.in_ok-function_of.field-0
-    (omega arith) c.named-item.is c.in_ok-push.ensures.ok c.loop-named.invariant c.in_ok-function_of.ensures.function
+pub returns : goal.returns
+returns c =
+    form_unit c.args.program.now c.args.named.now c.as_slice.result.now c.as_slice.ensures c.args.file.now c.name_of.result.now c.in_ok-of_form.of_form.functions
+    c.name_of.ensures (has_weight c.args.program.now c.args.named.now c.requires c.tree-tree.ensures.lawful) c.in_ok-of_form.ensures.functions

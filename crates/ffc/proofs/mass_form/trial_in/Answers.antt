@@ -1,8 +1,0 @@
-use Rattle.ufl_tree.specs.Reading.{kind_of}
-use Rattle.ffc.specs.MassForm.{trial_at}
-use Rattle.ffc.proofs.MassFormLaws.{at_plain}
-use Rattle.ffc.proofs.mass_form.trial_in.Goals as goal
-
-pub returns-then-is_plain : goal.returns-then-is_plain
-returns-then-is_plain c =
-    at_plain c.args.tree.now _ trial_at c.is_plain.result c.is_plain.ensures c.if-is_plain.true (c.trial_at.ensures (kind_of c.args.tree.now))
